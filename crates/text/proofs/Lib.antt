@@ -1,0 +1,4 @@
+pub mod Cuts
+pub mod Digits
+pub mod Hex
+pub mod Writes
