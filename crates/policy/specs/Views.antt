@@ -1,0 +1,2 @@
+-- What the code's values mean.
+use Prim.Native.Nat.{ℕ}

@@ -1,0 +1,6 @@
+mod Sums
+mod Steps
+mod Growth
+mod Absorbed
+mod Padded
+mod Digests

@@ -1,0 +1,6 @@
+use Rattle.sha2.specs.Functions.{Σ1, ROTR}
+use Rattle.sha2.proofs.functions.big_sigma1.Needs as need
+
+pub returns : need.returns
+unfolding Σ1 ROTR
+returns c = cc

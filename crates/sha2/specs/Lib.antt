@@ -1,0 +1,3 @@
+pub mod Functions
+pub mod Constants
+pub mod Sha256
