@@ -1,7 +1,7 @@
 // Where a text or a call was refused, and why.
 ghost use mathlib.Core.Path.{_≡_};
 ghost use Rattle.interfaces.specs.Numbers.{layerNumber, layerWord};
-ghost use Rattle.interfaces.specs.Faults.{faultAt, formRefusal, callRefusal};
+ghost use Rattle.interfaces.specs.Faults.{faultAt, formRefusal, textRefusal, callRefusal};
 use crate::code::Code;
 use crate::code::CodeDebug;
 use crate::code::CodePartialEq;
@@ -48,6 +48,15 @@ impl Refusal {
         Refusal {
             layer: Layer::Text,
             code: Code::Value,
+        }
+    }
+
+    pub fn text(code: Code) -> Refusal
+        ensures { λ r. ⌜ r ≡ textRefusal code ⌝ }
+    {
+        Refusal {
+            layer: Layer::Text,
+            code,
         }
     }
 

@@ -1,6 +1,9 @@
 pub mod Assertions
 pub mod Checks
+pub mod ComparisonFields
+pub mod Judging
 pub mod Lines
+pub mod Operations
 pub mod Reading
 pub mod Strings
 pub mod Views

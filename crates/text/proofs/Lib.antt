@@ -2,3 +2,4 @@ pub mod Cuts
 pub mod Digits
 pub mod Hex
 pub mod Writes
+pub mod Inverses

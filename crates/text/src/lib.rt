@@ -2,4 +2,5 @@
 pub mod cut;
 pub mod number;
 pub mod pairs;
+pub mod word;
 pub mod write;

@@ -1,9 +1,11 @@
 // Byte strings as lower-case hexadecimal digit pairs.
 ghost use mathlib.Core.Path.{_≡_};
-ghost use Prim.Native.Nat.{_+_, _*_};
-ghost use Rattle.std.specs.declared.option.Option.the-variants.{Some};
+ghost use Prim.Native.Nat.{ℕ, _+_, _*_};
+ghost use mathlib.Core.List.{List};
+ghost use Rattle.std.specs.declared.option.Option.the-variants.{Some, None};
+ghost use mathlib.Core.Bool.{false, cond};
 ghost use lib.ListN.{length, replicate};
-ghost use Rattle.std.specs.Options.{mapped, isSome, valueOr};
+ghost use Rattle.std.specs.Options.{Cases, mapped, valueOr};
 ghost use Rattle.text.specs.Pairs.{hexValue, hexDigit, pairs, unpaired, ofLength};
 use interfaces::buffer::clear;
 
@@ -19,7 +21,8 @@ fn hex_value(c: u8) -> Option<u8>
 
 // How many bytes a field stands for; none where it is no lower-case digit pairs.
 pub fn pair_count(field: &[u8]) -> Option<usize>
-    ensures { λ r. ⌜ r ≡ mapped length (unpaired (now (field .entry))) ⌝ }
+    ensures value { λ r. ⌜ r ≡ mapped length (unpaired (now (field .entry))) ⌝ }
+    ensures bytes { λ r. ⌜ Cases r (unpaired (now (field .entry)) ≡ None) (λ n. (bs : List ℕ) × (unpaired (now (field .entry)) ≡ Some bs) × (length bs ≡ n)) ⌝ }
 {
     if field.len() % 2 != 0 {
         return None;
@@ -50,8 +53,8 @@ fn fill_pairs(field: &[u8], out: &mut [u8])
 // Decodes a field that stands for exactly as many bytes as the buffer has; else the buffer is
 // zeros and the answer false.
 pub fn unpair(field: &[u8], out: &mut [u8]) -> bool
-    ensures answer { λ r. ⌜ r ≡ isSome (ofLength (length (now (out .entry))) (unpaired (now (field .entry)))) ⌝ }
-    ensures after { λ _. ⌜ now (out .exit) ≡ valueOr (ofLength (length (now (out .entry))) (unpaired (now (field .entry)))) (replicate (length (now (out .entry))) 0) ⌝ }
+    ensures answer { λ r. ⌜ ofLength (length (now (out .entry))) (unpaired (now (field .entry))) ≡ cond r (Some (now (out .exit))) None ⌝ }
+    ensures cleared { λ r. ⌜ (r ≡ false → now (out .exit) ≡ replicate (length (now (out .entry))) 0) ⌝ }
 {
     if pair_count(field) != Some(out.len()) {
         clear(out);

@@ -1,0 +1,5 @@
+pub mod Counts
+pub mod Decoding
+pub mod ReadsFields
+pub mod ReadsLines
+pub mod ReadsWords

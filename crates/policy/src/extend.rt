@@ -1,0 +1,104 @@
+// Digests extended by an assertion and joined: the strings that are hashed.
+ghost use Prim.Native.Nat.{_+_, _≤_};
+ghost use mathlib.Core.List.{_++_};
+ghost use mathlib.Core.Path.{_≡_};
+ghost use lib.ListN.{length, take};
+ghost use Rattle.policy.specs.Strings.{commandCode, comparisonString, body, extended};
+ghost use Rattle.policy.specs.Views.{assertionOf, comparisonOf};
+use crate::assertion::Assertion;
+use crate::assertion::Comparison;
+use crate::assertion::NAME_LENGTH;
+use crate::operand::OPERAND_LIMIT;
+use interfaces::digest::Digest;
+use interfaces::digest::DIGEST_LENGTH;
+use interfaces::hash::Hash;
+
+// A command code's length.
+const CODE_LENGTH: usize = 4;
+
+// The longest string hashed for a comparison: its operand, offset and operation.
+const COMPARISON_LIMIT: usize = OPERAND_LIMIT + 2 + 2;
+
+// The longest of the strings hashed to extend a digest, that of `nv`.
+const STEP_LIMIT: usize = DIGEST_LENGTH + CODE_LENGTH + DIGEST_LENGTH + NAME_LENGTH;
+
+// One bank is selected, SHA-256's, by three bytes.
+const BANK: [u8; 7] = [0, 0, 0, 1, 0, 0x0b, 3];
+
+fn append(all: &mut [u8], at: usize, more: &[u8]) -> usize
+    requires { ⌜ at + length (now more) ≤ length (now all) ⌝ }
+    ensures end { λ r. ⌜ r ≡ at + length (now (more .entry)) ⌝ }
+    ensures front { λ r. ⌜ take r (now (all .exit)) ≡ take at (now (all .entry)) ++ now (more .entry) ⌝ }
+{
+    let end = at + more.len();
+    all[at..end].copy_from_slice(more);
+    end
+}
+
+fn append_two(all: &mut [u8], at: usize, first: &[u8], second: &[u8]) -> usize
+    requires { ⌜ at + (length (now first) + length (now second)) ≤ length (now all) ⌝ }
+    ensures end { λ r. ⌜ r ≡ at + (length (now (first .entry)) + length (now (second .entry))) ⌝ }
+    ensures front { λ r. ⌜ take r (now (all .exit)) ≡ take at (now (all .entry)) ++ (now (first .entry) ++ now (second .entry)) ⌝ }
+{
+    let at = append(all, at, first);
+    append(all, at, second)
+}
+
+fn digest_of<H: Hash>(hash: &H, text: &[u8]) -> Digest
+    requires { ⌜ length (now text) ≤ 65536 ⌝ }
+    ensures { λ r. ⌜ r .bytes ≡ meaning (now (hash .entry)) .digest (now (text .entry)) ⌝ }
+{
+    let mut digest = Digest::zero();
+    // Within the limits hashing always succeeds.
+    let _ = hash.hash(text, &mut digest.bytes);
+    digest
+}
+
+fn comparison_digest<H: Hash>(hash: &H, comparison: &Comparison) -> Digest
+    ensures { λ r. ⌜ r .bytes ≡ meaning (now (hash .entry)) .digest (comparisonString (comparisonOf (now (comparison .entry)))) ⌝ }
+{
+    let operand = comparison.operand;
+    let mut text = [0; COMPARISON_LIMIT];
+    let at = append(&mut text, 0, &operand.bytes[0..operand.len]);
+    let at = append(&mut text, at, &comparison.offset.to_be_bytes());
+    let at = append(&mut text, at, &comparison.operation.number().to_be_bytes());
+    digest_of(hash, &text[0..at])
+}
+
+// Writes what follows the command code in the string hashed.
+fn append_body<H: Hash>(hash: &H, assertion: &Assertion, all: &mut [u8], at: usize) -> usize
+    requires { ⌜ at + 66 ≤ length (now all) ⌝ }
+    ensures end { λ r. ⌜ r ≡ at + length (body (meaning (now (hash .entry))) (assertionOf (now (assertion .entry)))) ⌝ }
+    ensures front { λ r. ⌜ take r (now (all .exit)) ≡ take at (now (all .entry)) ++ body (meaning (now (hash .entry))) (assertionOf (now (assertion .entry))) ⌝ }
+    ensures within { λ r. ⌜ r ≤ at + 66 ⌝ }
+{
+    match assertion {
+        Assertion::Pcr(selection, digest) => {
+            let at = append(all, at, &BANK);
+            append_two(all, at, &selection.bytes, &digest.bytes)
+        }
+        Assertion::Nv(name, comparison) => {
+            let digest = comparison_digest(hash, comparison);
+            append_two(all, at, &digest.bytes, &name.bytes)
+        }
+        Assertion::Time(comparison) => {
+            let digest = comparison_digest(hash, comparison);
+            append(all, at, &digest.bytes)
+        }
+        Assertion::Locality(set) => append(all, at, &[*set]),
+        Assertion::Command(code) => append(all, at, &code.to_be_bytes()),
+        Assertion::Presence => at,
+        Assertion::Password => at,
+    }
+}
+
+// The digest extended by an assertion.
+pub fn extend_digest<H: Hash>(hash: &H, old: &Digest, assertion: &Assertion) -> Digest
+    ensures { λ r. ⌜ r .bytes ≡ extended (meaning (now (hash .entry))) (now (old .entry) .bytes) (assertionOf (now (assertion .entry))) ⌝ }
+{
+    let mut text = [0; STEP_LIMIT];
+    let at = append(&mut text, 0, &old.bytes);
+    let at = append(&mut text, at, &assertion.command_code().to_be_bytes());
+    let at = append_body(hash, assertion, &mut text, at);
+    digest_of(hash, &text[0..at])
+}

@@ -1,0 +1,9 @@
+// Words compared whole.
+ghost use mathlib.Core.Path.{_≡_};
+ghost use Rattle.std.specs.shelf.Text.{sameBytes};
+
+pub fn same(word: &[u8], other: &[u8]) -> bool
+    ensures { λ r. ⌜ r ≡ sameBytes (now (word .entry)) (now (other .entry)) ⌝ }
+{
+    word == other
+}

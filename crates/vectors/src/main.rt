@@ -1,0 +1,83 @@
+// Prints the SHA-256 of known messages, to be held to what another implementation says.
+ghost use mathlib.Core.Path.{_≡_};
+ghost use Prim.Native.Nat.{ℕ, _+_, _*_, _%_, _<_, _≤_};
+ghost use lib.ListN.{length, getD};
+ghost use Rattle.std.specs.Vec.{made};
+use interfaces::code::Code;
+use interfaces::digest::Digest;
+use interfaces::hash::Hash;
+use sha2::Sha256;
+use sha2::Sha256Hash;
+use std::error::AnyError;
+use std::fmt;
+
+const LONGEST: usize = 130;
+
+// A digest as lower-case hex digits.
+#[derive(Drop)]
+struct Hex(Digest);
+
+impl fmt::Display for Hex as HexDisplay {
+    fn fmt<W: fmt::Write>(&self, f: &mut fmt::Formatter<W>) -> fmt::Result {
+        for byte in self.0.bytes {
+            write!(f, "{byte:02x}")?;
+        }
+        Ok(())
+    }
+}
+
+fn digest_of<H: Hash>(hash: &H, text: &[u8]) -> Result<Digest, Code>
+    ensures { λ r. ⌜ made r (λ d. d .bytes ≡ H·Hash .meaning (now (hash .entry)) .digest (now (text .entry))) ⌝ }
+{
+    let mut digest = Digest::zero();
+    hash.hash(text, &mut digest.bytes)?;
+    Ok(digest)
+}
+
+// Fills `text` with bytes that tell it from the texts of the other lengths.
+fn fill(text: &mut [u8])
+    requires { ⌜ length (now text) ≤ 130 ⌝ }
+    ensures { λ _. ⌜ ((k : ℕ) → k < length (now (text .exit)) → getD (now (text .exit)) k 0 ≡ (k * 7 + length (now (text .entry))) % 251) ⌝ }
+{
+    let n = text.len();
+    for i in 0..n {
+        text[i] = ((i * 7 + n) % 251) as u8;
+    }
+}
+
+fn print_digest(rt: &LibcRuntime, label: impl fmt::Display + Drop, text: &[u8]) -> Result<(), AnyError> {
+    let Ok(digest) = digest_of(&Sha256, text) else {
+        return Err("refused".into());
+    };
+    let hex = Hex(digest);
+    println!(rt, "{label}\t{hex}")?;
+    Ok(())
+}
+
+fn print_length(rt: &LibcRuntime, n: usize) -> Result<(), AnyError>
+    requires { ⌜ n ≤ 130 ⌝ }
+{
+    let mut buffer = [0; LONGEST];
+    let text = &mut buffer[0..n];
+    fill(text);
+    print_digest(rt, format_args!("len {n}"), text)
+}
+
+fn main(rt: LibcRuntime) -> Result<(), AnyError> {
+    print_digest(&rt, "empty", b"")?;
+    print_digest(&rt, "abc", b"abc")?;
+    print_digest(
+        &rt,
+        "448",
+        b"abcdbcdecdefdefgefghfghighijhijkijkljklmklmnlmnomnopnopq",
+    )?;
+    print_digest(
+        &rt,
+        "896",
+        b"abcdefghbcdefghicdefghijdefghijkefghijklfghijklmghijklmnhijklmnoijklmnopjklmnopqklmnopqrlmnopqrsmnopqrstnopqrstu",
+    )?;
+    for n in 0..=LONGEST {
+        print_length(&rt, n)?;
+    }
+    Ok(())
+}
