@@ -1,4 +1,5 @@
 pub mod Assertions
+pub mod Cases
 pub mod Checks
 pub mod ComparisonFields
 pub mod Judging

@@ -1,10 +1,17 @@
 -- The strings that are hashed for an assertion and for a joining of trees.
 use Prim.Native.Nat.{ℕ}
+use lib.Dec.{leb}
+use lib.ListN.{length}
+use mathlib.Core.Bool.{cond, _&&_}
 use mathlib.Core.List.{List, [], _∷_, _++_}
 use Rattle.std.specs.shelf.Lists.{joined}
+use Rattle.std.specs.declared.result.Result.{Result}
+use Rattle.std.specs.declared.result.Result.the-variants.{Ok, Err}
+use Rattle.interfaces.specs.declared.code.Code.{Code}
+use Rattle.interfaces.specs.declared.code.Code.the-variants.{Size}
 use Rattle.interfaces.specs.Hashing.{Hashing, zeros}
 use Rattle.policy.specs.Assertions.{Comparison, Assertion, pcr, nv, time, locality, command, presence, password}
-use Rattle.policy.specs.Lines.{be2, be4}
+use Rattle.policy.specs.Lines.{be2, be4, fewestTrees, mostTrees}
 
 -- The code of the TPM 2.0 command that makes the assertion.
 abbrev pub commandCode : Assertion → ℕ
@@ -62,3 +69,7 @@ joinString h ds = zeros h ++ be4 orCode ++ joined (λ d. d) ds
 
 abbrev pub joinedDigest : Hashing → List (List ℕ) → List ℕ
 joinedDigest h ds = h .digest (joinString h ds)
+
+-- What joining answers: the digest of two to eight digests, or a refusal.
+abbrev pub joinAnswer : Hashing → List (List ℕ) → Result (List ℕ) Code
+joinAnswer h ds = cond (leb fewestTrees (length ds) && leb (length ds) mostTrees) (Ok (joinedDigest h ds)) (Err Size)

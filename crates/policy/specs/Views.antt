@@ -4,6 +4,7 @@ use lib.ListN.{take}
 use mathlib.Core.List.{List}
 use Rattle.std.specs.declared.result.Result.{Result}
 use Rattle.std.specs.declared.result.Result.the-variants.{Ok, Err}
+use Rattle.interfaces.specs.declared.digest.Digest.{Digest}
 use Rattle.policy.specs.declared.operand.Operand.{Operand}
 use Rattle.policy.specs.declared.assertion.Comparison as code
 use Rattle.policy.specs.declared.assertion.Assertion as code-assertion
@@ -13,6 +14,9 @@ use Rattle.policy.specs.declared.line.Line.the-variants.{Start, Any, Extend}
 use Rattle.policy.specs.Assertions.{Comparison, Assertion, pcr, nv, time, locality, command, presence, password}
 use Rattle.policy.specs.Lines.{Line, start, any, extend}
 use Rattle.policy.specs.Operations.{operationNumber}
+
+abbrev pub digestBytes : Digest → List ℕ
+digestBytes d = d .bytes
 
 -- An operand's bytes; what lies behind its length means nothing.
 abbrev pub operandBytes : Operand → List ℕ

@@ -1,14 +1,22 @@
 // Digests extended by an assertion and joined: the strings that are hashed.
-ghost use Prim.Native.Nat.{_+_, _≤_};
-ghost use mathlib.Core.List.{_++_};
+ghost use Prim.Native.Nat.{_+_, _*_, _≤_};
+ghost use mathlib.Core.List.{_++_, map};
 ghost use mathlib.Core.Path.{_≡_};
-ghost use lib.ListN.{length, take};
-ghost use Rattle.policy.specs.Strings.{commandCode, comparisonString, body, extended};
-ghost use Rattle.policy.specs.Views.{assertionOf, comparisonOf};
+ghost use lib.ListN.{length, take, replicate};
+ghost use Rattle.std.specs.shelf.Lists.{joined};
+ghost use Rattle.interfaces.specs.Hashing.{digestLength};
+ghost use Rattle.policy.specs.Lines.{be4};
+ghost use Rattle.policy.specs.Cases.{PasswordHashes36, AnyOfEightHashes292};
+ghost use Rattle.policy.specs.Strings.{comparisonString, body, extended, orCode, joinAnswer};
+ghost use Rattle.policy.specs.Views.{assertionOf, comparisonOf, digestBytes, meant};
 use crate::assertion::Assertion;
 use crate::assertion::Comparison;
 use crate::assertion::NAME_LENGTH;
+use crate::commands::POLICY_OR;
+use crate::line::FEWEST_TREES;
+use crate::line::MOST_TREES;
 use crate::operand::OPERAND_LIMIT;
+use interfaces::code::Code;
 use interfaces::digest::Digest;
 use interfaces::digest::DIGEST_LENGTH;
 use interfaces::hash::Hash;
@@ -21,6 +29,9 @@ const COMPARISON_LIMIT: usize = OPERAND_LIMIT + 2 + 2;
 
 // The longest of the strings hashed to extend a digest, that of `nv`.
 const STEP_LIMIT: usize = DIGEST_LENGTH + CODE_LENGTH + DIGEST_LENGTH + NAME_LENGTH;
+
+// The string hashed to join the most digests.
+const JOIN_LIMIT: usize = DIGEST_LENGTH + CODE_LENGTH + MOST_TREES * DIGEST_LENGTH;
 
 // One bank is selected, SHA-256's, by three bytes.
 const BANK: [u8; 7] = [0, 0, 0, 1, 0, 0x0b, 3];
@@ -94,11 +105,47 @@ fn append_body<H: Hash>(hash: &H, assertion: &Assertion, all: &mut [u8], at: usi
 
 // The digest extended by an assertion.
 pub fn extend_digest<H: Hash>(hash: &H, old: &Digest, assertion: &Assertion) -> Digest
-    ensures { λ r. ⌜ r .bytes ≡ extended (meaning (now (hash .entry))) (now (old .entry) .bytes) (assertionOf (now (assertion .entry))) ⌝ }
+    ensures password_case { λ _. ⌜ PasswordHashes36 ⌝ }
+    ensures value { λ r. ⌜ r .bytes ≡ extended (meaning (now (hash .entry))) (now (old .entry) .bytes) (assertionOf (now (assertion .entry))) ⌝ }
 {
     let mut text = [0; STEP_LIMIT];
     let at = append(&mut text, 0, &old.bytes);
     let at = append(&mut text, at, &assertion.command_code().to_be_bytes());
     let at = append_body(hash, assertion, &mut text, at);
     digest_of(hash, &text[0..at])
+}
+
+fn append_digests(all: &mut [u8], at: usize, digests: &[Digest]) -> usize
+    requires { ⌜ at + 32 * length (now digests) ≤ length (now all) ⌝ }
+    ensures end { λ r. ⌜ r ≡ at + 32 * length (now (digests .entry)) ⌝ }
+    ensures front { λ r. ⌜ take r (now (all .exit)) ≡ take at (now (all .entry)) ++ joined digestBytes (now (digests .entry)) ⌝ }
+{
+    let mut end = at;
+    for digest in digests {
+        end = append(all, end, &digest.bytes);
+    }
+    end
+}
+
+fn append_join(all: &mut [u8], digests: &[Digest]) -> usize
+    requires { ⌜ 36 + 32 * length (now digests) ≤ length (now all) ⌝ }
+    ensures end { λ r. ⌜ r ≡ 36 + 32 * length (now (digests .entry)) ⌝ }
+    ensures front { λ r. ⌜ take r (now (all .exit)) ≡ (replicate digestLength 0 ++ be4 orCode) ++ joined digestBytes (now (digests .entry)) ⌝ }
+{
+    let at = append(all, 0, &Digest::zero().bytes);
+    let at = append(all, at, &POLICY_OR.to_be_bytes());
+    append_digests(all, at, digests)
+}
+
+// The digest that two to eight digests are joined into, lowest first.
+pub fn join_digests<H: Hash>(hash: &H, digests: &[Digest]) -> Result<Digest, Code>
+    ensures any_case { λ _. ⌜ AnyOfEightHashes292 ⌝ }
+    ensures value { λ r. ⌜ meant digestBytes r ≡ joinAnswer (meaning (now (hash .entry))) (map digestBytes (now (digests .entry))) ⌝ }
+{
+    if digests.len() < FEWEST_TREES || digests.len() > MOST_TREES {
+        return Err(Code::Size);
+    }
+    let mut text = [0; JOIN_LIMIT];
+    let at = append_join(&mut text, digests);
+    Ok(digest_of(hash, &text[0..at]))
 }
