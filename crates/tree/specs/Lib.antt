@@ -1,0 +1,5 @@
+pub mod Answers
+pub mod Stacks
+pub mod Texts
+pub mod Trees
+pub mod Views
