@@ -1,1 +1,2 @@
+pub mod Homs
 pub mod Tops

@@ -77,7 +77,7 @@ fn join_top<H: Hash>(hash: &H, stack: &mut Stack, trees: usize) -> Result<(), Re
     }
 }
 
-fn grow<H: Hash>(hash: &H, stack: &mut Stack, line: Line) -> Result<(), Refusal>
+pub(crate) fn grow<H: Hash>(hash: &H, stack: &mut Stack, line: Line) -> Result<(), Refusal>
     requires room { ⌜ now stack .height < 64 ⌝ }
     requires count { ⌜ now stack .branches < 64 ⌝ }
     requires sound { ⌜ lineFlaw digestLength (lineOf line) ≡ None ⌝ }

@@ -1,4 +1,5 @@
 // Policy texts: the tree that a text builds, its digest, its lines and its branches.
+mod fold;
 mod grow;
 mod stack;
 
