@@ -1,6 +1,9 @@
 mod Sums
+mod Bitwise
+mod Lanes
 mod Steps
 mod Growth
+mod Window
 mod Absorbed
 mod Padded
 mod Digests

@@ -1,7 +1,7 @@
 -- The padded message, hashed in two parts: the whole blocks, and the rest with the padding.
 use Prim.Native.Nat.{ℕ, _+_, _*_, _/_, _%_, _≤_}
-use mathlib.Core.Path.{_≡_, refl, ap, sym, _∙_}
-use mathlib.Core.List.{List, [], _∷_, _++_}
+use mathlib.Core.Path.{_≡_, _∙_}
+use mathlib.Core.List.{List, _++_}
 use lib.ListN.{length, replicate, take, drop}
 use native.Mathlib.Omega.{arith}
 use Rattle.std.proofs.shelf.Lists.{length-append, length-replicate, length-take-le, take-append-drop, drop-append-le}
@@ -12,7 +12,7 @@ length-padding : (n : ℕ) → length (padding n) ≡ 9 + zerosAfter n
 unfolding padding longBytes
 length-padding n =
     let zeros : length (replicate (zerosAfter n) 0 ++ longBytes (8 * n)) ≡ zerosAfter n + 8 =
-        length-append (replicate (zerosAfter n) 0) (longBytes (8 * n)) ∙ rw (length-replicate {A = ℕ} (zerosAfter n) 0) in
+    length-append (replicate (zerosAfter n) 0) (longBytes (8 * n)) ∙ rw (length-replicate {A = ℕ} (zerosAfter n) 0) in
     omega (arith, zeros)
 
 length-pad : (m : List ℕ) → length (pad m) ≡ length m + (9 + zerosAfter (length m))

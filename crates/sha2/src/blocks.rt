@@ -3,21 +3,21 @@ ghost use mathlib.Core.Path.{_≡_};
 ghost use Prim.Native.Nat.{_*_, _≤_};
 ghost use lib.ListN.{length};
 ghost use Rattle.sha2.specs.Sha256.{compress, absorb};
+use crate::constants::BLOCK;
+use crate::constants::State;
 use crate::rounds::add_all;
 use crate::rounds::all_rounds;
-use crate::schedule::BLOCK;
-use crate::schedule::expand;
 
-fn add_block(h: [u32; 8], block: &[u8]) -> [u32; 8]
+// The hash value `h` after one more block.
+fn add_block(h: State, block: &[u8]) -> State
     requires { ⌜ length (now block) ≡ 64 ⌝ }
     ensures { λ r. ⌜ r ≡ compress h (now (block .entry)) ⌝ }
 {
-    let w = expand(block);
-    add_all(all_rounds(h, &w), h)
+    add_all(all_rounds(h, block), h)
 }
 
 // The hash value `start` after the first `count` blocks of `bytes`.
-pub(crate) fn add_blocks(start: [u32; 8], bytes: &[u8], count: usize) -> [u32; 8]
+pub(crate) fn add_blocks(start: State, bytes: &[u8], count: usize) -> State
     requires { ⌜ count * 64 ≤ length (now bytes) ⌝ }
     ensures { λ r. ⌜ r ≡ absorb count (now (bytes .entry)) start ⌝ }
 {

@@ -1,17 +1,19 @@
 // The functions on words of SHA-256, under the names of the standard.
 ghost use mathlib.Core.Path.{_≡_};
-ghost use Rattle.sha2.specs.Functions.{Ch, Maj, Σ0, Σ1, σ0, σ1};
+ghost use Rattle.sha2.specs.Functions.{Ch, Maj, Σ0, Σ1};
 
+// `ch` and `maj` take an operation less than the standard's forms, and consecutive rounds share the
+// `x ^ y` of `maj`.
 pub(crate) fn ch(x: u32, y: u32, z: u32) -> u32
     ensures { λ r. ⌜ r ≡ Ch x y z ⌝ }
 {
-    (x & y) ^ (!x & z)
+    z ^ (x & (y ^ z))
 }
 
 pub(crate) fn maj(x: u32, y: u32, z: u32) -> u32
     ensures { λ r. ⌜ r ≡ Maj x y z ⌝ }
 {
-    (x & y) ^ (x & z) ^ (y & z)
+    y ^ ((x ^ y) & (y ^ z))
 }
 
 pub(crate) fn big_sigma0(x: u32) -> u32
@@ -24,16 +26,4 @@ pub(crate) fn big_sigma1(x: u32) -> u32
     ensures { λ r. ⌜ r ≡ Σ1 x ⌝ }
 {
     x.rotate_right(6) ^ x.rotate_right(11) ^ x.rotate_right(25)
-}
-
-pub(crate) fn small_sigma0(x: u32) -> u32
-    ensures { λ r. ⌜ r ≡ σ0 x ⌝ }
-{
-    x.rotate_right(7) ^ x.rotate_right(18) ^ (x >> 3)
-}
-
-pub(crate) fn small_sigma1(x: u32) -> u32
-    ensures { λ r. ⌜ r ≡ σ1 x ⌝ }
-{
-    x.rotate_right(17) ^ x.rotate_right(19) ^ (x >> 10)
 }

@@ -5,14 +5,16 @@ ghost use lib.ListN.{length};
 ghost use Rattle.sha2.specs.Constants.{H0};
 ghost use Rattle.sha2.specs.Sha256.{pad, absorb, sha256Hashing};
 use crate::blocks::add_blocks;
+use crate::constants::BLOCK;
+use crate::constants::State;
 use crate::constants::initial;
 use crate::message::pad_rest;
 use crate::message::write_digest;
-use crate::schedule::BLOCK;
 use interfaces::code::Code;
 use interfaces::hash::Hash;
 use interfaces::hash::admit;
 
+// SHA-256 in the list of algorithms of TPM 2.0.
 const IDENTIFIER: u16 = 0x000b;
 
 #[derive(Clone, Copy)]
@@ -33,7 +35,7 @@ pub impl Hash for Sha256 as Sha256Hash {
 }
 
 // The hash value after the last block of the padded text. Whole blocks are read where they lie.
-fn hash_value(text: &[u8]) -> [u32; 8]
+fn hash_value(text: &[u8]) -> State
     requires { ⌜ length (now text) < 2 ^ 61 ⌝ }
     ensures { λ r. ⌜ r ≡ absorb (length (pad (now (text .entry))) / 64) (pad (now (text .entry))) H0 ⌝ }
 {

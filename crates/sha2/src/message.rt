@@ -5,14 +5,17 @@ ghost use mathlib.Core.List.{_++_};
 ghost use lib.ListN.{length, replicate, take};
 ghost use Rattle.std.specs.shelf.Lists.{joined};
 ghost use Rattle.sha2.specs.Sha256.{wordBytes, zerosAfter, padding};
-use crate::schedule::BLOCK;
+use crate::constants::BLOCK;
+use crate::constants::State;
 use interfaces::buffer::clear;
 
 // The bit 1 that ends a message, in a byte of its own.
 const PAD_BYTE: [u8; 1] = [0x80];
 
-// The length of a message, in bits, takes 64 bits.
+// The length of a message is given in bits, in 64 bits.
 const LENGTH_BYTES: usize = 8;
+
+const BYTE_BITS: u64 = 8;
 
 // Writes `more` into `all` from `start` on, and says where it ends.
 fn put(all: &mut [u8], start: usize, more: &[u8]) -> usize
@@ -37,7 +40,7 @@ fn put_zeros(all: &mut [u8], start: usize, count: usize) -> usize
 }
 
 // Writes the digest: the words of the hash value, the highest byte of each first.
-pub(crate) fn write_digest(h: [u32; 8], out: &mut [u8])
+pub(crate) fn write_digest(h: State, out: &mut [u8])
     requires { ⌜ length (now out) ≡ 32 ⌝ }
     ensures { λ _. ⌜ now (out .exit) ≡ joined wordBytes h ⌝ }
 {
@@ -61,7 +64,7 @@ pub(crate) fn pad_rest(rest: &[u8], n: usize, tail: &mut [u8]) -> usize
     ensures ends { λ r. ⌜ r ≡ n % 64 + 9 + zerosAfter n ⌝ }
     ensures holds { λ r. ⌜ take r (now (tail .exit)) ≡ now (rest .entry) ++ padding n ⌝ }
 {
-    let bits = 8 * n as u64;
+    let bits = BYTE_BITS * n as u64;
     let rest_end = put(tail, 0, rest);
     let pad_end = put(tail, rest_end, &PAD_BYTE);
     let zeros_end = put_zeros(tail, pad_end, zeros_after(n));

@@ -1,52 +1,68 @@
 // The rounds on the eight working variables.
 ghost use mathlib.Core.Path.{_≡_};
-ghost use Prim.Native.Nat.{_+_, _≤_};
-ghost use Rattle.sha2.specs.Sha256.{round, rounds, sums};
+ghost use lib.ListN.{length};
+ghost use Rattle.sha2.specs.Constants.{K};
+ghost use Rattle.sha2.specs.Sha256.{round, rounds, schedule, sums};
 use crate::constants::ROUNDS;
-use crate::constants::round_constant;
+use crate::constants::State;
+use crate::constants::round_constants;
 use crate::functions::big_sigma0;
 use crate::functions::big_sigma1;
 use crate::functions::ch;
 use crate::functions::maj;
+use crate::schedule::LANES;
+use crate::schedule::VECTOR_BYTES;
+use crate::schedule::next_words;
+use crate::schedule::words_at;
+use std::simd::prelude::*;
 
-const STEP: usize = 4;
-
-fn one_round(v: [u32; 8], k: u32, w: u32) -> [u32; 8]
-    ensures { λ r. ⌜ r ≡ round v k w ⌝ }
+// A round needs no more of its constant and its word than their sum.
+fn one_round(v: State, sum: u32) -> State
+    ensures { λ r. ⌜ r ≡ round v 0 sum ⌝ }
 {
     let [a, b, c, d, e, f, g, h] = v;
-    let t1 = h
-        .wrapping_add(big_sigma1(e))
+    let t1 = h.wrapping_add(big_sigma1(e))
         .wrapping_add(ch(e, f, g))
-        .wrapping_add(k)
-        .wrapping_add(w);
+        .wrapping_add(sum);
     let t2 = big_sigma0(a).wrapping_add(maj(a, b, c));
     [t1.wrapping_add(t2), a, b, c, d.wrapping_add(t1), e, f, g]
 }
 
-// Four rounds in a row spare half of the moves between the variables.
-fn four_rounds(v: [u32; 8], w: &[u32; ROUNDS], t: usize) -> [u32; 8]
-    requires { ⌜ t + 4 ≤ 64 ⌝ }
-    ensures { λ r. ⌜ r ≡ rounds 4 t (now (w .entry)) v ⌝ }
+fn four_rounds(v: State, k: u32x4, w: u32x4) -> State
+    ensures { λ r. ⌜ r ≡ rounds k w v ⌝ }
 {
-    let v1 = one_round(v, round_constant(t), w[t]);
-    let v2 = one_round(v1, round_constant(t + 1), w[t + 1]);
-    let v3 = one_round(v2, round_constant(t + 2), w[t + 2]);
-    one_round(v3, round_constant(t + 3), w[t + 3])
+    let terms = (k + w).to_array();
+    let v1 = one_round(v, terms[0]);
+    let v2 = one_round(v1, terms[1]);
+    let v3 = one_round(v2, terms[2]);
+    one_round(v3, terms[3])
 }
 
-pub(crate) fn all_rounds(start: [u32; 8], w: &[u32; ROUNDS]) -> [u32; 8]
-    ensures { λ r. ⌜ r ≡ rounds 64 0 (now (w .entry)) start ⌝ }
+// The rounds of a block. The schedule goes along with them, a window of its next sixteen words in
+// four vectors: its work then fills the time in which a round waits for the one before.
+pub(crate) fn all_rounds(start: State, block: &[u8]) -> State
+    requires { ⌜ length (now block) ≡ 64 ⌝ }
+    ensures { λ r. ⌜ r ≡ rounds K (schedule (now (block .entry))) start ⌝ }
 {
+    let mut a = words_at(block, 0);
+    let mut b = words_at(block, VECTOR_BYTES);
+    let mut c = words_at(block, 2 * VECTOR_BYTES);
+    let mut d = words_at(block, 3 * VECTOR_BYTES);
     let mut v = start;
-    for i in 0..ROUNDS / STEP {
-        let next = four_rounds(v, w, STEP * i);
-        v = next;
+    for i in 0..ROUNDS / LANES {
+        let later = four_rounds(v, round_constants(LANES * i), a);
+        v = later;
+        let next = next_words(a, b, c, d);
+        a = b;
+        b = c;
+        c = d;
+        d = next;
     }
     v
 }
 
-pub(crate) fn add_all(v: [u32; 8], h: [u32; 8]) -> [u32; 8]
+// The sums, word by word, that end a block.
+pub(crate) fn add_all(v: State, h: State) -> State
     ensures { λ r. ⌜ r ≡ sums v h ⌝ }
 {
     [

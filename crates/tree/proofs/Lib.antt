@@ -1,2 +1,5 @@
+pub mod Along
 pub mod Homs
 pub mod Tops
+pub mod Complete
+pub mod Sound

@@ -11,7 +11,12 @@ use sha2::Sha256Hash;
 use std::error::AnyError;
 use std::fmt;
 
+// The longest of the texts that are made here: two blocks and more.
 const LONGEST: usize = 130;
+
+const FACTOR: usize = 7;
+
+const MODULUS: usize = 251;
 
 // A digest as lower-case hex digits.
 #[derive(Drop)]
@@ -41,11 +46,15 @@ fn fill(text: &mut [u8])
 {
     let n = text.len();
     for i in 0..n {
-        text[i] = ((i * 7 + n) % 251) as u8;
+        text[i] = ((i * FACTOR + n) % MODULUS) as u8;
     }
 }
 
-fn print_digest(rt: &LibcRuntime, label: impl fmt::Display + Drop, text: &[u8]) -> Result<(), AnyError> {
+fn print_digest(
+    rt: &LibcRuntime,
+    label: impl fmt::Display + Drop,
+    text: &[u8],
+) -> Result<(), AnyError> {
     let Ok(digest) = digest_of(&Sha256, text) else {
         return Err("refused".into());
     };

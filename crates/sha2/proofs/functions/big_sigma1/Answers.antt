@@ -3,4 +3,4 @@ use Rattle.sha2.proofs.functions.big_sigma1.Needs as need
 
 pub returns : need.returns
 unfolding Σ1 ROTR
-returns c = cc
+returns c = rw (c .rotate-right .ensures, c .rotate-right-2 .ensures, c .rotate-right-3 .ensures)

@@ -15,13 +15,19 @@ pub put-requires : need.put-requires
 unfolding zerosAfter
 put-requires c κs = omega (arith, ap length (c .to-be-bytes .ensures))
 
-regroup : (a b c d : List ℕ) → ((a ++ b) ++ c) ++ d ≡ a ++ (b ++ (c ++ d))
-regroup a b c d = simp append-assoc
+in-a-row : (rest pad len bytes t0 t1 t2 t3 : List ℕ) (zeros z : ℕ) → t0 ≡ rest → t1 ≡ t0 ++ pad → z ≡ zeros → t2 ≡ t1 ++ replicate z 0 → bytes ≡ len → t3 ≡ t2 ++ bytes → t3 ≡ rest ++ (pad ++ (replicate zeros 0 ++ len))
+in-a-row rest pad len bytes t0 t1 t2 t3 zeros z e0 e1 ez e2 eb e3 =
+    let regroup : ((rest ++ pad) ++ replicate zeros 0) ++ len ≡ rest ++ (pad ++ (replicate zeros 0 ++ len)) =
+    simp append-assoc in
+    cc
 
 pub returns : need.returns
 unfolding padding longBytes
 returns c =
     record {
       ends = omega (arith, ap length (c .to-be-bytes .ensures));
-      holds = cc (regroup (c .args .rest .now) (0x80 ∷ []) (replicate (zerosAfter (c .args .n)) 0) (longBytes (8 * c .args .n)))
+      holds =
+          in-a-row (c .args .rest .now) (0x80 ∷ []) (longBytes (8 * c .args .n)) (c .to-be-bytes .result) _ _ _ _
+          (zerosAfter (c .args .n)) (c .zeros-after .result) (c .put-rest-end .ensures .holds) (c .put-pad-end .ensures .holds)
+          (c .zeros-after .ensures) (c .put-zeros-zeros-end .ensures .holds) (c .to-be-bytes .ensures) (c .put .ensures .holds);
     }

@@ -12,7 +12,7 @@ use Rattle.sha2.proofs.message.put_zeros.Needs as need
 cleared : (start count : ℕ) (all part : List ℕ) → start + count ≤ length all → part ≡ replicate (length (take (start + count - start) (drop start all))) 0 → take (start + count) (putMid start (start + count - start) all part) ≡ take start all ++ replicate count 0
 cleared start count all part le e =
     let long : length (take (start + count - start) (drop start all)) ≡ count =
-        simp (length-take, length-drop) (omega arith) in
+    simp (length-take, length-drop) (omega arith) in
     let zeros : part ≡ replicate count 0 = e ∙ rw long in
     let end : start + count ≡ start + length part = omega (arith, ap length zeros, length-replicate {A = ℕ} count 0) in
     take-putMid start (start + count - start) all part (start + count) end (omega arith) ∙ rw zeros
@@ -21,5 +21,5 @@ pub returns : need.returns
 returns c =
     record {
       ends = search needs;
-      holds = cleared (c .args .start) (c .args .count) (c .args .all .now) (c .clear .last .out) (c .pre) (c .clear .ensures)
+      holds = cleared (c .args .start) (c .args .count) (c .args .all .now) (c .clear .last .out) (c .pre) (c .clear .ensures);
     }

@@ -1,4 +1,3 @@
-use Prim.Native.Nat.{_+_}
 use mathlib.Core.Path.{_≡_, refl, ap, sym, _∙_}
 use mathlib.Core.List.{[]}
 use lib.ListN.{length, getD, take}
@@ -24,5 +23,5 @@ loop-word-again c =
 pub returns : need.returns
 returns c =
     let all : take (c .loop-word .word-index) (c .args .h) ≡ c .args .h =
-        take-all (c .loop-word .word-index) (c .args .h) (omega arith) in
+    take-all (c .loop-word .word-index) (c .args .h) (omega arith) in
     sym (take-all (c .loop-word .end) (c .loop-word .out) (omega arith)) ∙ (c .loop-word .inv .1 ∙ ap (joined wordBytes) all)
