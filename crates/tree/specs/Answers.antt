@@ -8,17 +8,26 @@ use mathlib.Core.Path.{_≡_}
 use Rattle.std.specs.declared.result.Result.{Result}
 use Rattle.std.specs.declared.result.Result.the-variants.{Ok, Err}
 use Rattle.interfaces.specs.declared.code.Code.the-variants.{Size}
+use Rattle.interfaces.specs.declared.digest.Digest.{Digest}
 use Rattle.interfaces.specs.declared.fault.Fault.{Fault}
 use Rattle.interfaces.specs.Faults.{callRefusal, faultAt}
 use Rattle.interfaces.specs.Hashing.{Hashing, digestLength}
 use Rattle.text.specs.Cut.{lines}
-use Rattle.tree.specs.declared.Summary.{Summary}
+use Rattle.tree.specs.declared.summary.Summary.{Summary}
 use Rattle.tree.specs.Texts.{built, Builds}
 use Rattle.tree.specs.Trees.{Tree, branches, treeDigest}
 
 -- A tree's figures, beside the number of its text's lines.
 abbrev pub summary : List ℕ → Tree → Summary
 summary text t = record { lines = length (lines text); branches = length (branches t) }
+
+-- The digest and the figures of the tree that a text builds, as the code holds them.
+abbrev pub figures : Digest × Summary → List ℕ × Summary
+figures p = (p .0 .bytes, p .1)
+
+abbrev pub figuresOf : Hashing → List ℕ → Result Tree Fault → Result (List ℕ × Summary) Fault
+figuresOf h text (Ok t) = Ok (treeDigest h t, summary text t)
+figuresOf h text (Err e) = Err e
 
 -- The tree of a text whose digest goes into a buffer of `room` bytes: the buffer is judged first.
 abbrev pub digested : List ℕ → ℕ → Result Tree Fault

@@ -1,10 +1,6 @@
 // Policy texts: the tree that a text builds, its digest, its lines and its branches.
+pub mod digest;
 mod fold;
 mod grow;
 mod stack;
-
-#[derive(Clone, Copy, Debug, PartialEq, Eq)]
-pub struct Summary {
-    pub lines: usize,
-    pub branches: usize,
-}
+pub mod summary;

@@ -14,7 +14,7 @@ pub returns : need.returns
 returns g c =
     let st = c .args .stack .now in
     let h = g .H·Hash .meaning (c .args .hash .now) in
-    let w : st .height ≤ length (st .digests) = search needs in
+    let w = st .within in
     let n = front-length digestBytes (st .digests) (st .height) w in
     let top = front-top digestBytes (st .digests) (st .height) w (st .height - 1) (record { bytes = [] }) (zeros h) (omega arith) in
     record {

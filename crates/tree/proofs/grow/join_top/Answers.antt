@@ -23,7 +23,7 @@ pub returns-in-Ok : need.returns-in-Ok
 returns-in-Ok g c =
     let st = c .args .stack .now in
     let h = g .H·Hash .meaning (c .args .hash .now) in
-    let w : st .height ≤ length (st .digests) = search needs in
+    let w = st .within in
     let n = front-length digestBytes (st .digests) (st .height) w in
     let low = st .height - c .args .trees in
     let top = front-drop digestBytes (st .digests) (st .height) w low in
@@ -42,7 +42,7 @@ pub returns-in-Err : need.returns-in-Err
 returns-in-Err g c =
     let st = c .args .stack .now in
     let h = g .H·Hash .meaning (c .args .hash .now) in
-    let w : st .height ≤ length (st .digests) = search needs in
+    let w = st .within in
     let low = st .height - c .args .trees in
     let ds = map digestBytes (take (st .height - low) (drop low (st .digests))) in
     let long = top-length digestBytes (st .digests) (st .height) w (c .args .trees) (omega arith) in
