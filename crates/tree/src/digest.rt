@@ -44,3 +44,33 @@ fn fold_text<H: Hash>(hash: &H, text: &[u8]) -> Result<(Digest, Summary), Fault>
     let summary = Summary { lines, branches: stack.branches };
     Ok((stack.digests[0], summary))
 }
+
+fn write_digest<H: Hash>(hash: &H, text: &[u8], out: &mut [u8]) -> Result<Summary, Fault>
+    ensures answer { λ r. ⌜ r ≡ answerOf (now (text .entry)) (digested (now (text .entry)) (length (now (out .entry)))) ⌝ }
+    ensures written { λ _. ⌜ now (out .exit) ≡ writtenOf (meaning (now (hash .entry))) (length (now (out .entry))) (digested (now (text .entry)) (length (now (out .entry)))) ⌝ }
+{
+    if out.len() != DIGEST_LENGTH {
+        clear(out);
+        return Err(Refusal::call(Code::Size).at(0));
+    }
+    match fold_text(hash, text) {
+        Ok((digest, summary)) => {
+            out.copy_from_slice(&digest.bytes);
+            Ok(summary)
+        }
+        Err(fault) => {
+            clear(out);
+            Err(fault)
+        }
+    }
+}
+
+// Digests a policy text: the number of its lines and branches, and the digest in the buffer, or the
+// first fault and a buffer of zeros. A text is refused exactly when it writes down no sound tree.
+pub fn digest_text<H: Hash>(hash: &H, text: &[u8], out: &mut [u8]) -> Result<Summary, Fault>
+    ensures answer { λ r. ⌜ r ≡ answerOf (now (text .entry)) (digested (now (text .entry)) (length (now (out .entry)))) ⌝ }
+    ensures written { λ _. ⌜ now (out .exit) ≡ writtenOf (meaning (now (hash .entry))) (length (now (out .entry))) (digested (now (text .entry)) (length (now (out .entry)))) ⌝ }
+    ensures means { λ r. ⌜ Means (meaning (now (hash .entry))) (now (text .entry)) (length (now (out .entry))) r (now (out .exit)) ⌝ }
+{
+    write_digest(hash, text, out)
+}
