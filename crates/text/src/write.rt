@@ -1,6 +1,6 @@
 // Writing into a buffer from a place on; what does not fit is refused, and nothing is written.
 ghost use mathlib.Core.Path.{_≡_};
-ghost use Prim.Native.Nat.{_≤_, _<_};
+ghost use Prim.Native.Nat.{_%_, _≤_};
 ghost use lib.ListN.{length, take};
 ghost use Rattle.std.specs.Written.{decimal};
 ghost use Rattle.text.specs.Pairs.{hexDigit, pairs};
@@ -20,11 +20,12 @@ pub fn put(out: &mut [u8], at: usize, more: &[u8]) -> Option<usize>
     Some(end)
 }
 
-fn hex_digit(v: u8) -> u8
-    requires { ⌜ v < 16 ⌝ }
-    ensures { λ r. ⌜ r ≡ hexDigit v ⌝ }
+// The digit of the low four bits.
+pub fn hex_digit(v: u8) -> u8
+    ensures { λ r. ⌜ r ≡ hexDigit (v % 16) ⌝ }
 {
-    if v < 10 { b'0' + v } else { b'a' - 10 + v }
+    let low = v % 16;
+    if low < 10 { b'0' + low } else { b'a' - 10 + low }
 }
 
 pub fn put_pairs(out: &mut [u8], at: usize, bytes: &[u8]) -> Option<usize>
@@ -35,7 +36,7 @@ pub fn put_pairs(out: &mut [u8], at: usize, bytes: &[u8]) -> Option<usize>
     }
     for (i, b) in bytes.iter().enumerate() {
         out[at + 2 * i] = hex_digit(*b / 16);
-        out[at + 2 * i + 1] = hex_digit(*b % 16);
+        out[at + 2 * i + 1] = hex_digit(*b);
     }
     Some(at + 2 * bytes.len())
 }

@@ -1,6 +1,8 @@
 use native.Mathlib.Omega.{arith}
-use lib.ListN.{length}
-use mathlib.Core.Path.{refl}
+use Prim.Native.Nat.{_/_, _%_}
+use lib.ListN.{length, getD}
+use mathlib.Core.Path.{_≡_, refl, ap, _∙_}
+use Rattle.text.specs.Pairs.{hexDigit}
 use Rattle.text.proofs.Writes.{pairs-length, spelled-more, spelled-all}
 use Rattle.text.proofs.write.put_pairs.Needs as need
 use Rattle.text.proofs.write.put_pairs.Needs.{then-at-out·by·then-at-out, then-at-out·by·else-at-out·then-bytes-out}
@@ -15,7 +17,9 @@ returns-then-at-out c =
 
 pub loop-i-again : need.loop-i-again
 loop-i-again c =
-    rw (c .hex-digit .ensures, c .hex-digit-in-loop-i .ensures)
+    let b = getD (c .args .bytes .now) (c .loop-i .i) 0 in
+    let high : b / 16 % 16 ≡ b / 16 = omega (arith, c .typed .bytes (c .loop-i .i) .fits) in
+    rw (c .hex-digit .ensures ∙ ap hexDigit high, c .hex-digit-in-loop-i .ensures)
     (spelled-more (c .args .out .now) (c .args .at) (c .args .bytes .now) (c .loop-i .i) _ (c .loop-i .out) (c .loop-i-test .taken) refl (omega arith) (c .loop-i .inv))
 
 pub returns : need.returns
