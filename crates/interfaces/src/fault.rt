@@ -45,10 +45,7 @@ impl Refusal {
     pub fn form() -> Refusal
         ensures { λ r. ⌜ r ≡ formRefusal ⌝ }
     {
-        Refusal {
-            layer: Layer::Text,
-            code: Code::Value,
-        }
+        Refusal::text(Code::Value)
     }
 
     pub fn text(code: Code) -> Refusal
