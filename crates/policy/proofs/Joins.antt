@@ -12,7 +12,7 @@ use Rattle.std.specs.declared.result.Result.the-variants.{Ok, Err}
 use Rattle.std.proofs.shelf.Lists.{length-append, length-replicate, joined-more, take-more}
 use Rattle.std.proofs.shelf.Tests.{lt-leb, le-leb, and-left, and-right, and-from, cond-true, cond-false}
 use Rattle.interfaces.specs.declared.code.Code.the-variants.{Size}
-use Rattle.interfaces.specs.Hashing.{Hashing, Lawful, zeros, digestLength}
+use Rattle.interfaces.specs.Hashing.{Hashing, Lawful, zeros}
 use Rattle.policy.specs.Cases.{AnyOfEightHashes292}
 use Rattle.policy.specs.Lines.{be4, fewestTrees, mostTrees}
 use Rattle.policy.specs.Strings.{orCode, joinString, joinedDigest, joinAnswer}
@@ -47,5 +47,5 @@ module _ (h : Hashing) (ds : List (List ℕ)) where
   join-some l m = sym (cond-true _ _ _ (and-from _ _ (le-leb fewestTrees _ l) (le-leb _ mostTrees m)))
 
 -- the string that the code writes
-pub join-written : {X : Type 0} (h : Hashing) → Lawful h → (f : X → List ℕ) (xs : List X) → (replicate digestLength 0 ++ be4 orCode) ++ joined f xs ≡ joinString h (map f xs)
-join-written h ok f xs = (λ i. (replicate (sym (ok .long) i) 0 ++ be4 orCode) ++ sym (joined-map f xs) i)
+pub join-written : {X : Type 0} (h : Hashing) (f : X → List ℕ) (xs : List X) → (zeros h ++ be4 orCode) ++ joined f xs ≡ joinString h (map f xs)
+join-written h f xs = ap (λ l. (zeros h ++ be4 orCode) ++ l) (sym (joined-map f xs))

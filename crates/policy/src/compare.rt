@@ -10,8 +10,8 @@ ghost use Rattle.policy.specs.Judging.{judgedComparison};
 ghost use Rattle.policy.specs.Reading.{parseComparison};
 ghost use Rattle.policy.specs.Views.{comparisonOf, operandBytes, meant};
 use crate::assertion::Comparison;
-use crate::operand::Operand;
 use crate::operand::OPERAND_LIMIT;
+use crate::operand::Operand;
 use crate::operation::Operation;
 use interfaces::code::Code;
 use text::number::read_number;
@@ -27,14 +27,23 @@ pub(crate) struct ComparisonFields<'a> {
     operation: u16,
 }
 
-pub(crate) fn comparison_fields<'a>(operand: &'a [u8], offset: &[u8], operation: &[u8]) -> Option<ComparisonFields<'a>>
+pub(crate) fn comparison_fields<'a>(
+    operand: &'a [u8],
+    offset: &[u8],
+    operation: &[u8],
+) -> Option<ComparisonFields<'a>>
     ensures parsed { λ r. ⌜ mapped fieldsOf r ≡ parseComparison (now (operand .entry)) (now (offset .entry)) (now (operation .entry)) ⌝ }
     ensures counted { λ r. ⌜ Cases r (Unit {0}) Counted ⌝ }
 {
     let len = pair_count(operand)?;
     let offset = read_number(offset)?;
     let operation = read_number(operation)?;
-    Some(ComparisonFields { operand, len, offset, operation })
+    Some(ComparisonFields {
+        operand,
+        len,
+        offset,
+        operation,
+    })
 }
 
 fn read_operand(field: &[u8], len: usize) -> Operand
@@ -60,6 +69,10 @@ impl ComparisonFields<'_> {
             return Err(Code::Value);
         };
         let operand = read_operand(self.operand, self.len);
-        Ok(Comparison { operand, offset: self.offset, operation })
+        Ok(Comparison {
+            operand,
+            offset: self.offset,
+            operation,
+        })
     }
 }

@@ -2,9 +2,9 @@
 ghost use Prim.Native.Nat.{_+_, _*_, _≤_};
 ghost use mathlib.Core.List.{_++_, map};
 ghost use mathlib.Core.Path.{_≡_};
-ghost use lib.ListN.{length, take, replicate};
+ghost use lib.ListN.{length, take};
 ghost use Rattle.std.specs.shelf.Lists.{joined};
-ghost use Rattle.interfaces.specs.Hashing.{digestLength};
+ghost use Rattle.interfaces.specs.Hashing.{zeros};
 ghost use Rattle.policy.specs.Lines.{be4};
 ghost use Rattle.policy.specs.Cases.{PasswordHashes36, AnyOfEightHashes292};
 ghost use Rattle.policy.specs.Strings.{comparisonString, body, extended, orCode, joinAnswer};
@@ -17,8 +17,8 @@ use crate::line::FEWEST_TREES;
 use crate::line::MOST_TREES;
 use crate::operand::OPERAND_LIMIT;
 use interfaces::code::Code;
-use interfaces::digest::Digest;
 use interfaces::digest::DIGEST_LENGTH;
+use interfaces::digest::Digest;
 use interfaces::hash::Hash;
 
 // A command code's length.
@@ -48,7 +48,8 @@ fn append(all: &mut [u8], at: usize, more: &[u8]) -> usize
 
 fn append_two(all: &mut [u8], at: usize, first: &[u8], second: &[u8]) -> usize
     requires { ⌜ at + (length (now first) + length (now second)) ≤ length (now all) ⌝ }
-    ensures end { λ r. ⌜ r ≡ at + (length (now (first .entry)) + length (now (second .entry))) ⌝ }
+    ensures sum { λ r. ⌜ r ≡ at + (length (now (first .entry)) + length (now (second .entry))) ⌝ }
+    ensures end { λ r. ⌜ r ≡ at + length (now (first .entry) ++ now (second .entry)) ⌝ }
     ensures front { λ r. ⌜ take r (now (all .exit)) ≡ take at (now (all .entry)) ++ (now (first .entry) ++ now (second .entry)) ⌝ }
 {
     let at = append(all, at, first);
@@ -63,6 +64,14 @@ fn digest_of<H: Hash>(hash: &H, text: &[u8]) -> Digest
     // Within the limits hashing always succeeds.
     let _ = hash.hash(text, &mut digest.bytes);
     digest
+}
+
+// The zero digest, with which every tree begins.
+pub fn zero_digest<H: Hash>(hash: &H) -> Digest
+    ensures { λ r. ⌜ r .bytes ≡ zeros (meaning (now (hash .entry))) ⌝ }
+{
+    let _ = hash;
+    Digest::zero()
 }
 
 fn comparison_digest<H: Hash>(hash: &H, comparison: &Comparison) -> Digest
@@ -127,13 +136,15 @@ fn append_digests(all: &mut [u8], at: usize, digests: &[Digest]) -> usize
     end
 }
 
-fn append_join(all: &mut [u8], digests: &[Digest]) -> usize
-    requires { ⌜ 36 + 32 * length (now digests) ≤ length (now all) ⌝ }
+// Writes the string that joins digests: in front stands the zero digest, whatever was before.
+fn append_join<H: Hash>(hash: &H, all: &mut [u8], digests: &[Digest]) -> usize
+    requires some { ⌜ 1 ≤ length (now digests) ⌝ }
+    requires room { ⌜ 36 + 32 * length (now digests) ≤ length (now all) ⌝ }
     ensures end { λ r. ⌜ r ≡ 36 + 32 * length (now (digests .entry)) ⌝ }
-    ensures front { λ r. ⌜ take r (now (all .exit)) ≡ (replicate digestLength 0 ++ be4 orCode) ++ joined digestBytes (now (digests .entry)) ⌝ }
+    ensures front { λ r. ⌜ take r (now (all .exit)) ≡ (zeros (meaning (now (hash .entry))) ++ be4 orCode) ++ joined digestBytes (now (digests .entry)) ⌝ }
 {
-    let at = append(all, 0, &Digest::zero().bytes);
-    let at = append(all, at, &POLICY_OR.to_be_bytes());
+    let zero = zero_digest(hash);
+    let at = append_two(all, 0, &zero.bytes, &POLICY_OR.to_be_bytes());
     append_digests(all, at, digests)
 }
 
@@ -146,6 +157,6 @@ pub fn join_digests<H: Hash>(hash: &H, digests: &[Digest]) -> Result<Digest, Cod
         return Err(Code::Size);
     }
     let mut text = [0; JOIN_LIMIT];
-    let at = append_join(&mut text, digests);
+    let at = append_join(hash, &mut text, digests);
     Ok(digest_of(hash, &text[0..at]))
 }

@@ -33,20 +33,22 @@ impl Operation {
     pub fn from_number(n: u16) -> Option<Operation>
         ensures { λ r. ⌜ mapped operationNumber r ≡ cond (leb n lastOperation) (Some n) None ⌝ }
     {
-        Some(match n {
-            0 => Operation::Equal,
-            1 => Operation::NotEqual,
-            2 => Operation::SignedGreater,
-            3 => Operation::UnsignedGreater,
-            4 => Operation::SignedLess,
-            5 => Operation::UnsignedLess,
-            6 => Operation::SignedGreaterOrEqual,
-            7 => Operation::UnsignedGreaterOrEqual,
-            8 => Operation::SignedLessOrEqual,
-            9 => Operation::UnsignedLessOrEqual,
-            10 => Operation::BitsSet,
-            11 => Operation::BitsClear,
-            _ => return None,
-        })
+        Some(
+            match n {
+                0 => Operation::Equal,
+                1 => Operation::NotEqual,
+                2 => Operation::SignedGreater,
+                3 => Operation::UnsignedGreater,
+                4 => Operation::SignedLess,
+                5 => Operation::UnsignedLess,
+                6 => Operation::SignedGreaterOrEqual,
+                7 => Operation::UnsignedGreaterOrEqual,
+                8 => Operation::SignedLessOrEqual,
+                9 => Operation::UnsignedLessOrEqual,
+                10 => Operation::BitsSet,
+                11 => Operation::BitsClear,
+                _ => return None,
+            },
+        )
     }
 }

@@ -25,7 +25,11 @@ pub fn hex_digit(v: u8) -> u8
     ensures { λ r. ⌜ r ≡ hexDigit (v % 16) ⌝ }
 {
     let low = v % 16;
-    if low < 10 { b'0' + low } else { b'a' - 10 + low }
+    if low < 10 {
+        b'0' + low
+    } else {
+        b'a' - 10 + low
+    }
 }
 
 pub fn put_pairs(out: &mut [u8], at: usize, bytes: &[u8]) -> Option<usize>

@@ -12,8 +12,8 @@ use crate::stack::LINE_LIMIT;
 use crate::summary::Summary;
 use interfaces::buffer::clear;
 use interfaces::code::Code;
-use interfaces::digest::Digest;
 use interfaces::digest::DIGEST_LENGTH;
+use interfaces::digest::Digest;
 use interfaces::fault::Fault;
 use interfaces::fault::Refusal;
 use interfaces::hash::Hash;
@@ -41,7 +41,10 @@ fn fold_text<H: Hash>(hash: &H, text: &[u8]) -> Result<(Digest, Summary), Fault>
     if stack.height != 1 {
         return Err(Refusal::form().at(lines));
     }
-    let summary = Summary { lines, branches: stack.branches };
+    let summary = Summary {
+        lines,
+        branches: stack.branches,
+    };
     Ok((stack.digests[0], summary))
 }
 

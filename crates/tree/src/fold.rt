@@ -3,6 +3,7 @@ ghost use Prim.Native.Nat.{_+_, _<_, _≤_};
 ghost use mathlib.Core.List.{[]};
 ghost use mathlib.Core.Path.{_≡_};
 ghost use lib.ListN.{length};
+ghost use Rattle.interfaces.specs.Faults.{faultAt};
 ghost use Rattle.interfaces.specs.Hashing.{digestLength};
 ghost use Rattle.policy.specs.Reading.{readLine};
 ghost use Rattle.text.specs.Cut.{lines};
@@ -29,6 +30,14 @@ fn take_line<H: Hash>(hash: &H, stack: &mut Stack, line: &[u8]) -> Result<(), Re
     }
 }
 
+// The fault of the line that follows the first `before` lines.
+fn fault_behind(before: usize, refusal: Refusal) -> Fault
+    requires { ⌜ before < 64 ⌝ }
+    ensures { λ r. ⌜ r ≡ faultAt (before + 1) refusal ⌝ }
+{
+    refusal.at(before + 1)
+}
+
 pub(crate) fn take_lines<H: Hash>(hash: &H, stack: &mut Stack, text: &[u8]) -> Result<(), Fault>
     requires few { ⌜ length (lines (now text)) ≤ 64 ⌝ }
     requires empty { ⌜ stackOf (now stack) ≡ [] ⌝ }
@@ -39,10 +48,10 @@ pub(crate) fn take_lines<H: Hash>(hash: &H, stack: &mut Stack, text: &[u8]) -> R
     let mut count = 0;
     let mut rest = text;
     while let Some((line, after)) = first_line(rest) {
-        count += 1;
         if let Err(refusal) = take_line(hash, stack, line) {
-            return Err(refusal.at(count));
+            return Err(fault_behind(count, refusal));
         }
+        count += 1;
         rest = after;
     }
     Ok(())

@@ -3,19 +3,20 @@ ghost use Prim.Native.Nat.{_+_, _-_, _<_, _≤_};
 ghost use mathlib.Core.Path.{_≡_};
 ghost use mathlib.Core.List.{[]};
 ghost use Rattle.std.specs.declared.option.Option.the-variants.{None};
-ghost use Rattle.interfaces.specs.Hashing.{digestLength};
+ghost use Rattle.interfaces.specs.Hashing.{digestLength, zeros};
 ghost use Rattle.policy.specs.Views.{lineOf, assertionOf};
 ghost use Rattle.policy.specs.Lines.{any, extend, lineFlaw};
 ghost use Rattle.tree.specs.Stacks.{stacked, allowed, digestFigure};
 ghost use Rattle.tree.specs.Views.{stackOf, replaced, Grew, starts};
-use crate::stack::Stack;
 use crate::stack::LINE_LIMIT;
+use crate::stack::Stack;
 use interfaces::digest::Digest;
 use interfaces::fault::Refusal;
 use interfaces::hash::Hash;
 use policy::assertion::Assertion;
 use policy::extend::extend_digest;
 use policy::extend::join_digests;
+use policy::extend::zero_digest;
 use policy::line::Line;
 
 pub(crate) fn empty_stack() -> Stack
@@ -41,6 +42,17 @@ fn replace_top(stack: &mut Stack, taken: usize, digest: Digest)
     let at = stack.height - taken;
     stack.digests[at] = digest;
     stack.height = at + 1;
+}
+
+fn begin_tree<H: Hash>(hash: &H, stack: &mut Stack)
+    requires room { ⌜ now stack .height < 64 ⌝ }
+    requires count { ⌜ now stack .branches < 64 ⌝ }
+    ensures digests { λ _. ⌜ stackOf (now (stack .exit)) ≡ replaced 0 (stackOf (now (stack .entry))) (zeros (meaning (now (hash .entry)))) ⌝ }
+    ensures height { λ _. ⌜ now (stack .exit) .height ≡ now (stack .entry) .height + 1 ⌝ }
+    ensures branches { λ _. ⌜ now (stack .exit) .branches ≡ now (stack .entry) .branches + 1 ⌝ }
+{
+    replace_top(stack, 0, zero_digest(hash));
+    stack.branches += 1;
 }
 
 fn extend_top<H: Hash>(hash: &H, stack: &mut Stack, assertion: &Assertion) -> Result<(), Refusal>
@@ -87,8 +99,7 @@ pub(crate) fn grow<H: Hash>(hash: &H, stack: &mut Stack, line: Line) -> Result<(
 {
     match line {
         Line::Start => {
-            replace_top(stack, 0, Digest::zero());
-            stack.branches += 1;
+            begin_tree(hash, stack);
             Ok(())
         }
         Line::Any(trees) => join_top(hash, stack, trees),

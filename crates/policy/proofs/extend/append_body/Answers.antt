@@ -4,6 +4,3 @@ use Rattle.policy.proofs.extend.append_body.Needs as need
 
 pub returns-in-Pcr : need.returns-in-Pcr
 returns-in-Pcr g c = search (needs, append-assoc, length-append)
-
-pub returns-in-Nv : need.returns-in-Nv
-returns-in-Nv g c = search (needs, append-assoc, length-append)

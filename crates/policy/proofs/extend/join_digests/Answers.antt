@@ -16,8 +16,8 @@ returns-then-digests-lt-FEWEST-TREES g c =
     let ds = map digestBytes (c .args .digests .now) in
     let same = length-map (c .args .digests .now) digestBytes in
     elim (c .then-digests-lt-FEWEST-TREES .came) [
-      then-digests-lt-FEWEST-TREES·by·then-digests-lt-FEWEST-TREES w ↦ record { any-case = any-of-eight; value = join-few h ds (omega (arith, w .if-digests-lt-FEWEST-TREES .taken)) }
-    | then-digests-lt-FEWEST-TREES·by·else-digests-lt-FEWEST-TREES·then-digests-gt-MOST-TREES w ↦ record { any-case = any-of-eight; value = join-many h ds (omega (arith, w .if-digests-gt-MOST-TREES .taken)) }
+      | then-digests-lt-FEWEST-TREES·by·then-digests-lt-FEWEST-TREES w ↦ record { any-case = any-of-eight; value = join-few h ds (omega (arith, w .if-digests-lt-FEWEST-TREES .taken)) }
+      | then-digests-lt-FEWEST-TREES·by·else-digests-lt-FEWEST-TREES·then-digests-gt-MOST-TREES w ↦ record { any-case = any-of-eight; value = join-many h ds (omega (arith, w .if-digests-gt-MOST-TREES .taken)) }
     ]
 
 pub returns : need.returns
@@ -25,7 +25,7 @@ returns g c =
     let h = g .H·Hash .meaning (c .args .hash .now) in
     let ds = map digestBytes (c .args .digests .now) in
     let same = length-map (c .args .digests .now) digestBytes in
-    let text = join-written h (g .H·Hash·met .lawful (c .args .hash .now)) digestBytes (c .args .digests .now) in
+    let text = join-written h digestBytes (c .args .digests .now) in
     let told : c .digest-of .result .bytes ≡ h .digest (take (c .append-join-at .result) (c .append-join-at .last .all)) = search needs in
     record {
       any-case = any-of-eight;

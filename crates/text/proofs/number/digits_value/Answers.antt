@@ -6,8 +6,8 @@ use Rattle.text.proofs.number.digits_value.Needs.{then-c-lt48·by·then-c-lt48
 pub returns-then-c-lt48 : need.returns-then-c-lt48
 returns-then-c-lt48 c =
     elim (c .then-c-lt48 .came) [
-      then-c-lt48·by·then-c-lt48 w ↦ digits-low _ _ _ (c .loop-c-test .taken) (c .loop-c .inv) (w .if-c-lt48 .taken)
-    | then-c-lt48·by·else-c-lt48·then-c-gt57 w ↦ digits-high _ _ _ (c .loop-c-test .taken) (c .loop-c .inv) (w .if-c-gt57 .taken)
+      | then-c-lt48·by·then-c-lt48 w ↦ digits-low _ _ _ (c .loop-c-test .taken) (c .loop-c .inv) (w .if-c-lt48 .taken)
+      | then-c-lt48·by·else-c-lt48·then-c-gt57 w ↦ digits-high _ _ _ (c .loop-c-test .taken) (c .loop-c .inv) (w .if-c-gt57 .taken)
     ]
 
 pub returns-then-n-gt-NUMBER-LIMIT : need.returns-then-n-gt-NUMBER-LIMIT

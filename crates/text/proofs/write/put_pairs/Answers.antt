@@ -11,8 +11,8 @@ pub returns-then-at-out : need.returns-then-at-out
 returns-then-at-out c =
     let long = pairs-length (c .args .bytes .now) in
     elim (c .then-at-out .came) [
-      then-at-out·by·then-at-out w ↦ record { over = omega (arith, w .if-at-out .taken); same = refl }
-    | then-at-out·by·else-at-out·then-bytes-out w ↦ record { over = omega (arith, w .if-at-out .left, w .if-bytes-out .taken); same = refl }
+      | then-at-out·by·then-at-out w ↦ record { over = omega (arith, w .if-at-out .taken); same = refl }
+      | then-at-out·by·else-at-out·then-bytes-out w ↦ record { over = omega (arith, w .if-at-out .left, w .if-bytes-out .taken); same = refl }
     ]
 
 pub loop-i-again : need.loop-i-again

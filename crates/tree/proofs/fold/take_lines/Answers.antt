@@ -15,7 +15,7 @@ pub returns-in-Err : need.returns-in-Err
 returns-in-Err g c =
     let h = g .H·Hash .meaning (c .args .hash .now) in
     let stopped = along-stopped h (c .args .text .now) (c .loop-line .rest .now) (c .in-Some .line .now) (c .in-Some .after .now) (c .loop-line .count) (c .loop-line .stack) (c .take-line .last .stack) (c .in-Some .ensures tt .cut) (c .loop-line .inv) (c .in-Err .refusal) (c .in-Err .ensures tt .grew) in
-    subst (λ e. Folded h (grown treeFigure digestLength 0 (lines (c .args .text .now)) []) (Err e) (c .take-line .last .stack)) (sym (c .at .ensures)) stopped
+    subst (λ e. Folded h (grown treeFigure digestLength 0 (lines (c .args .text .now)) []) (Err e) (c .take-line .last .stack)) (sym (c .fault-behind .ensures)) stopped
 
 pub loop-line-again : need.loop-line-again
 loop-line-again g c =

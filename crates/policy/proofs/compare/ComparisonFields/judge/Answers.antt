@@ -12,6 +12,6 @@ pub returns-then-self-lt1 : need.returns-then-self-lt1
 returns-then-self-lt1 c =
     let long : length (fieldsOf (c .args .self) .operand) ≡ c .args .self .len = ap (λ o. length (valueOr o [])) (c .pre .1) ∙ c .pre .2 in
     elim (c .then-self-lt1 .came) [
-      then-self-lt1·by·then-self-lt1 w ↦ operand-empty (fieldsOf (c .args .self)) (omega (arith, w .if-self-lt1 .taken))
-    | then-self-lt1·by·else-self-lt1·then-self-gt-OPERAND-LIMIT w ↦ operand-long (fieldsOf (c .args .self)) (omega (arith, w .if-self-gt-OPERAND-LIMIT .taken))
+      | then-self-lt1·by·then-self-lt1 w ↦ operand-empty (fieldsOf (c .args .self)) (omega (arith, w .if-self-lt1 .taken))
+      | then-self-lt1·by·else-self-lt1·then-self-gt-OPERAND-LIMIT w ↦ operand-long (fieldsOf (c .args .self)) (omega (arith, w .if-self-gt-OPERAND-LIMIT .taken))
     ]
