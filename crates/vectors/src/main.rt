@@ -90,3 +90,32 @@ fn main(rt: LibcRuntime) -> Result<(), AnyError> {
     }
     Ok(())
 }
+
+#[cfg(test)]
+mod tests {
+    use interfaces::code::Code;
+    use interfaces::code::CodeDebug;
+    use interfaces::code::CodePartialEq;
+    use interfaces::hash::HASH_LIMIT;
+    use interfaces::hash::Hash;
+    use sha2::Sha256;
+    use sha2::Sha256Hash;
+    use std::test::*;
+
+    #[test]
+    fn limit_of_the_text() -> Result<(), Fail> {
+        let text = [0; HASH_LIMIT + 1];
+        let mut out = [7; 32];
+        check_eq(Sha256.hash(&text, &mut out), Err(Code::Size))?;
+        check_eq(out, [0; 32])?;
+        check_eq(Sha256.hash(&text[1..], &mut out), Ok(()))
+    }
+
+    #[test]
+    fn length_of_the_buffer() -> Result<(), Fail> {
+        let mut out = [7; 33];
+        check_eq(Sha256.hash(b"abc", &mut out), Err(Code::Size))?;
+        check_eq(out, [0; 33])?;
+        check_eq(Sha256.identifier(), 0x000b)
+    }
+}
