@@ -6,11 +6,12 @@ use lib.ListN.{length, take, drop, getD}
 use mathlib.Core.Bool.{Bool, true, false, cond}
 use mathlib.Core.List.{List, [], _∷_, _++_}
 use mathlib.Core.Path.{_≡_, refl, ap, sym, _∙_}
+use Rattle.std.specs.Options.{valueOr}
 use Rattle.std.specs.declared.option.Option.{Option}
 use Rattle.std.specs.declared.option.Option.the-variants.{Some, None}
 use Rattle.std.proofs.shelf.Lists.{take-more, drop-more, drop-all, take-all, append-assoc, append-nil, nil-from-length}
 use Rattle.std.proofs.shelf.Tests.{eq-eqb, ne-eqb, cond-true, cond-false}
-use Rattle.text.specs.Cut.{lineFeed, tab, attached, lines, fields, further, before, after}
+use Rattle.text.specs.Cut.{lineFeed, tab, attached, lines, fields, further, before, after, firstLine}
 
 -- the lines of what follows a line feed
 abbrev pub laterLines : Option (List ℕ) → List (List ℕ)
@@ -103,3 +104,10 @@ after-shorter b (c ∷ cs) r e = by (eqb c b) e (after-shorter b cs r)
     by : (t : Bool) → cond t (Some cs) (after b cs) ≡ Some r → (after b cs ≡ Some r → length r < length cs) → length r < suc (length cs)
     by true f h = let same : cs ≡ r = cc in omega (arith, ap length same)
     by false f h = omega (arith, h f)
+
+pub first-none : (s : List ℕ) → length s ≡ 0 → None ≡ firstLine s
+first-none s e = sym (ap firstLine (nil-from-length s e))
+
+pub first-some : (s line rest : List ℕ) → 0 < length s → line ≡ before lineFeed s → rest ≡ valueOr (after lineFeed s) [] → Some (line, rest) ≡ firstLine s
+first-some [] line rest h a b = absurd (omega arith)
+first-some (c ∷ cs) line rest h a b = λ i. Some (a i, b i)

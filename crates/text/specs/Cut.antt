@@ -3,6 +3,7 @@ use Prim.Native.Nat.{ℕ}
 use lib.Dec.{eqb}
 use mathlib.Core.Bool.{cond}
 use mathlib.Core.List.{List, [], _∷_}
+use Rattle.std.specs.Options.{valueOr}
 use Rattle.std.specs.declared.option.Option.{Option}
 use Rattle.std.specs.declared.option.Option.the-variants.{Some, None}
 
@@ -42,3 +43,8 @@ before b (c ∷ cs) = cond (eqb c b) [] (c ∷ before b cs)
 abbrev pub after : ℕ → List ℕ → Option (List ℕ)
 after b [] = None
 after b (c ∷ cs) = cond (eqb c b) (Some cs) (after b cs)
+
+-- The first line of a text and what follows its line feed; none where the text is empty.
+abbrev pub firstLine : List ℕ → Option (List ℕ × List ℕ)
+firstLine [] = None
+firstLine (c ∷ cs) = Some (before lineFeed (c ∷ cs), valueOr (after lineFeed (c ∷ cs)) [])

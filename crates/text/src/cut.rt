@@ -4,7 +4,7 @@ ghost use mathlib.Core.List.{[], _∷_};
 ghost use Prim.Native.Nat.{_<_};
 ghost use lib.ListN.{length};
 ghost use Rattle.std.specs.Options.{Cases, mapped};
-ghost use Rattle.text.specs.Cut.{before, after, lines, fields, further};
+ghost use Rattle.text.specs.Cut.{before, after, lines, fields, further, firstLine};
 
 pub const LINE_FEED: u8 = b'\n';
 
@@ -25,6 +25,7 @@ pub fn split_once(s: &[u8], b: u8) -> (&[u8], Option<&[u8]>)
 
 // The first line and what follows it; none where no line is left.
 pub fn first_line(text: &[u8]) -> Option<(&[u8], &[u8])>
+    ensures value { λ r. ⌜ mapped (λ p. (now (p .0), now (p .1))) r ≡ firstLine (now (text .entry)) ⌝ }
     ensures cut { λ r. ⌜ Cases r (lines (now (text .entry)) ≡ []) (λ p. lines (now (text .entry)) ≡ now (p .0) ∷ lines (now (p .1))) ⌝ }
     ensures shorter { λ r. ⌜ Cases r (length (now (text .entry)) ≡ 0) (λ p. length (now (p .1)) < length (now (text .entry))) ⌝ }
 {

@@ -74,7 +74,8 @@ last-tree ts some =
     let i = length ts - 1 in
     drop-more ts i leaf (omega arith) ∙ ap (λ l. getD ts i leaf ∷ l) (drop-all (i + 1) ts (omega arith))
 
-chosen : {A : Type 0} (b : Bool) (x y : A) → cond b (Some x) None ≡ Some y → (b ≡ true) × (x ≡ y)
+-- a test that chose some value was true
+pub chosen : {A : Type 0} (b : Bool) (x y : A) → cond b (Some x) None ≡ Some y → (b ≡ true) × (x ≡ y)
 chosen true x y e = (refl, cc)
 chosen false x y e = absurd (let z : _≡_ {A = ℕ} 0 1 = cc in omega arith)
 

@@ -26,6 +26,7 @@ use Rattle.policy.proofs.ReadsLines.{reads}
 use Rattle.tree.specs.Stacks.{Figure, stacked, allowed, onStack, lineStep, followed, grown, single, forest, treeFigure}
 use Rattle.tree.specs.Texts.{sizeFits, built, Builds}
 use Rattle.tree.specs.Trees.{Tree, leaf, step, choice, trees, treeLines, forestLines, Formed, FormedAll}
+use Rattle.tree.proofs.Homs.{chosen}
 
 -- a forest has as many trees as it was made of
 trees-forest : (ts : List Tree) → trees (forest ts) ≡ length ts
@@ -77,17 +78,12 @@ unflawed : (o : Option Code) → mapped callRefusal o ≡ None → o ≡ None
 unflawed None e = refl
 unflawed (Some c) e = absurd (let z : _≡_ {A = ℕ} 0 1 = cc in omega arith)
 
--- what a test lets through passed the test
-some-cond : {A : Type 0} (b : Bool) (x y : A) → cond b (Some x) None ≡ Some y → (b ≡ true) × (x ≡ y)
-some-cond true x y e = (refl, cc)
-some-cond false x y e = absurd (let z : _≡_ {A = ℕ} 0 1 = cc in omega arith)
-
 -- a line that passes its checks leaves a sound stack sound, and stands behind the stack's lines
 stacked-sound : (size : ℕ) (l : Line) (ts ts′ : List Tree) → Holds l → lineFlaw size l ≡ None → stacked treeFigure l ts ≡ Some ts′ → FormedAll size (forest ts) → Put size l ts ts′
 stacked-sound size start ts ts′ h c e f = replaced-put size start ts ts [] ts′ leaf (append-nil ts) (cc) refl (λ _. tt) f
 stacked-sound size (extend a) ts ts′ h c e f =
     let k = length ts - 1 in
-    let r = some-cond (leb 1 (length ts)) _ ts′ e in
+    let r = chosen (leb 1 (length ts)) _ ts′ e in
     let some = leb-true 1 (length ts) (r .0) in
     let top = getD ts k leaf in
     let parts = sym (take-more ts k leaf (omega arith)) ∙ take-all _ ts (omega arith) in
@@ -95,7 +91,7 @@ stacked-sound size (extend a) ts ts′ h c e f =
     replaced-put size (extend a) ts (take k ts) (top ∷ []) ts′ (step top a) parts (r .1) ends (λ g. (g .0, h, unflawed (flaw size a) c)) f
 stacked-sound size (any n) ts ts′ h c e f =
     let k = length ts - n in
-    let r = some-cond (leb n (length ts)) _ ts′ e in
+    let r = chosen (leb n (length ts)) _ ts′ e in
     let some = leb-true n (length ts) (r .0) in
     let fits = any-fits size n c in
     let joined = drop k ts in
