@@ -1,7 +1,8 @@
 #!/usr/bin/env python3
 """Writes the cases (data/, args) and what must be printed for them (stdout), by a model of its own.
 
-The model shares nothing with the proved code: it goes by regular expressions and hashlib.
+The model shares nothing with the proved code: it goes by regular expressions and hashlib. It also
+writes what policy_digest and the C program print for the sample policy.
 """
 import hashlib
 import os
@@ -25,16 +26,12 @@ FORMS = {
 NUMBERS = {"any": [0], "nv": [2, 3], "time": [1, 2]}
 
 
-def sha(data):
-    return hashlib.sha256(data).digest()
-
-
 class Fault(Exception):
     pass
 
 
-def comparison(operand, offset, operation):
-    return sha(operand + offset.to_bytes(2, "big") + operation.to_bytes(2, "big"))
+def comparison(hashed, operand, offset, operation):
+    return hashed(operand + offset.to_bytes(2, "big") + operation.to_bytes(2, "big"))
 
 
 def read(line):
@@ -49,7 +46,7 @@ def read(line):
     return word, fields
 
 
-def judge(word, f):
+def judge(hashed, word, f):
     """The checks of the fields; answers what follows the command code in the string hashed."""
     if word == "any" and not 2 <= f[0] <= 8:
         raise Fault("text", 0x095)
@@ -63,7 +60,7 @@ def judge(word, f):
             raise Fault("call", 0x095)
         if operation > 11:
             raise Fault("call", 0x084)
-        return comparison(operand, offset, operation) + (f[0] if word == "nv" else b"")
+        return comparison(hashed, operand, offset, operation) + (f[0] if word == "nv" else b"")
     if word == "locality" and not 1 <= f[0][0] <= 0x1F:
         raise Fault("call", 0x08D)
     return b"".join(x for x in f if isinstance(x, bytes))
@@ -74,7 +71,10 @@ def lines_of(text):
     return lines[:-1] if lines[-1] == b"" else lines
 
 
-def report(text):
+def report(text, hash_name="sha256"):
+    def hashed(data):
+        return hashlib.new(hash_name, data).digest()
+
     lines = lines_of(text)
     if len(text) > 13440 or not 1 <= len(lines) <= 64:
         return "fault\t0\ttext\t095\n"
@@ -82,7 +82,7 @@ def report(text):
     try:
         for number, line in enumerate(lines, 1):
             word, fields = read(line.decode("latin-1"))
-            body = judge(word, fields)
+            body = judge(hashed, word, fields)
             if word == "start":
                 stack.append((ZERO, 1))
                 continue
@@ -92,10 +92,10 @@ def report(text):
             top, stack = stack[len(stack) - taken:], stack[:len(stack) - taken]
             if word == "any":
                 joined = ZERO + (0x171).to_bytes(4, "big") + b"".join(d for d, _ in top)
-                stack.append((sha(joined), sum(b for _, b in top)))
+                stack.append((hashed(joined), sum(b for _, b in top)))
             else:
                 old, count = top[0]
-                stack.append((sha(old + CODES[word].to_bytes(4, "big") + body), count))
+                stack.append((hashed(old + CODES[word].to_bytes(4, "big") + body), count))
         if len(stack) != 1:
             raise Fault("text", 0x084)
     except Fault as fault:
@@ -263,4 +263,18 @@ if __name__ == "__main__":
     for name, case in CASES.items():
         write(os.path.join("data", name), case)
     write("args", "".join(name + "\n" for name in CASES).encode())
-    write("stdout", "".join("%s\n%s" % (n, report(c)) for n, c in CASES.items()).encode())
+    write("stdout", "".join("%s\n%s%s" % (n, report(c), report(c, "sha3_256"))
+                            for n, c in CASES.items()).encode())
+    root = os.path.join("..", "..")
+    with open(os.path.join(HERE, root, "samples", "exam-dock.policy"), "rb") as sample:
+        policy = sample.read()
+    write(os.path.join("..", "policy_digest", "stdout"), report(policy).encode())
+    shown = ""
+    for label, name in (("sha256", "sha256"), ("sha3-256", "sha3_256")):
+        shown += label + "\n"
+        for case, faulty in (("sample", policy), ("empty text", b""),
+                             ("oversized text", bytes(13441)),
+                             ("no such locality", text("start", "locality\t20"))):
+            shown += case + "\n" + report(faulty, name)
+        shown += "buffer too short\nfault\t0\tcall\t095\n"
+    write(os.path.join(root, "firmware", "expected"), shown.encode())

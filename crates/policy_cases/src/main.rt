@@ -1,8 +1,10 @@
-// Prints the report on each policy text that an argument names, to be held to what an independent
-// model says.
+// Prints the report on each policy text that an argument names, under both hashes, to be held to
+// what an independent model says.
 use report::digest::digest_report;
 use sha2::Sha256;
 use sha2::Sha256Hash;
+use sha3::Sha3;
+use sha3::Sha3Hash;
 use std::env;
 use std::error::AnyError;
 use std::fs;
@@ -11,9 +13,11 @@ use std::io::Write;
 fn print_report(rt: &LibcRuntime, name: &str) -> Result<(), AnyError> {
     let text = fs::read(rt, name)?;
     let report = digest_report(&Sha256, text.as_slice());
+    let report3 = digest_report(&Sha3, text.as_slice());
     let mut output = rt.stdout();
     println!(rt, "{name}")?;
     output.write_all(report.as_bytes())?;
+    output.write_all(report3.as_bytes())?;
     Ok(())
 }
 

@@ -4,6 +4,5 @@ mod Lanes
 mod Steps
 mod Growth
 mod Window
-mod Absorbed
 mod Padded
 mod Digests

@@ -1,9 +1,9 @@
 -- SHA-256 (FIPS 180-4, sections 5.1.1, 5.2.1 and 6.2) of a message of whole bytes.
 use Prim.Native.Nat.{ℕ, zero, suc, _+_, _-_, _*_, _/_, _%_, _^_}
-use lib.ListN.{length, getD, take, drop, replicate}
+use lib.ListN.{length, getD, drop, replicate}
 use mathlib.Core.List.{List, [], _∷_, _++_}
 use Rattle.std.specs.shelf.Lists.{joined}
-use Rattle.std.specs.Iters.{folded}
+use Rattle.blocks.specs.Blocks.{absorb}
 use Rattle.interfaces.specs.Hashing.{Hashing}
 use Rattle.sha2.specs.Functions.{Ch, Maj, Σ0, Σ1, σ0, σ1}
 use Rattle.sha2.specs.Constants.{K, H0}
@@ -30,11 +30,6 @@ padding n = (0x80 ∷ []) ++ (replicate (zerosAfter n) 0 ++ longBytes (8 * n))
 -- The padded message.
 unfoldable pub pad : List ℕ → List ℕ
 pad m = m ++ padding (length m)
-
--- The first n blocks of 64 bytes.
-unfoldable pub cut : ℕ → List ℕ → List (List ℕ)
-cut zero m = []
-cut (suc n) m = take 64 m ∷ cut n (drop 64 m)
 
 -- The word that the first four bytes are, the highest first.
 unfoldable pub firstWord : List ℕ → ℕ
@@ -92,13 +87,10 @@ sums v h =
 unfoldable pub compress : List ℕ → List ℕ → List ℕ
 compress h block = sums (rounds K (schedule block) h) h
 
--- The hash value h after the first n blocks of m.
-unfoldable pub absorb : ℕ → List ℕ → List ℕ → List ℕ
-absorb n m h = folded compress h (cut n m)
-
 -- The digest: the initial hash value, after all blocks of the padded message, written out as bytes.
+-- A block has 64 bytes.
 unfoldable pub sha256 : List ℕ → List ℕ
-sha256 m = joined wordBytes (absorb (length (pad m) / 64) (pad m) H0)
+sha256 m = joined wordBytes (absorb compress 64 (length (pad m) / 64) (pad m) H0)
 
 -- SHA-256 as a hash, with its identifier in TPM 2.0.
 abbrev pub sha256Hashing : Hashing

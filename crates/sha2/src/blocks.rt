@@ -2,7 +2,8 @@
 ghost use mathlib.Core.Path.{_≡_};
 ghost use Prim.Native.Nat.{_*_, _≤_};
 ghost use lib.ListN.{length};
-ghost use Rattle.sha2.specs.Sha256.{compress, absorb};
+ghost use Rattle.blocks.specs.Blocks.{absorb};
+ghost use Rattle.sha2.specs.Sha256.{compress};
 use crate::constants::BLOCK;
 use crate::constants::State;
 use crate::rounds::add_all;
@@ -19,7 +20,7 @@ fn add_block(h: State, block: &[u8]) -> State
 // The hash value `start` after the first `count` blocks of `bytes`.
 pub(crate) fn add_blocks(start: State, bytes: &[u8], count: usize) -> State
     requires { ⌜ count * 64 ≤ length (now bytes) ⌝ }
-    ensures { λ r. ⌜ r ≡ absorb count (now (bytes .entry)) start ⌝ }
+    ensures { λ r. ⌜ r ≡ absorb compress 64 count (now (bytes .entry)) start ⌝ }
 {
     let mut h = start;
     for i in 0..count {

@@ -2,8 +2,9 @@
 ghost use mathlib.Core.Path.{_≡_};
 ghost use Prim.Native.Nat.{_/_, _<_, _^_};
 ghost use lib.ListN.{length};
+ghost use Rattle.blocks.specs.Blocks.{absorb};
 ghost use Rattle.sha2.specs.Constants.{H0};
-ghost use Rattle.sha2.specs.Sha256.{pad, absorb, sha256Hashing};
+ghost use Rattle.sha2.specs.Sha256.{compress, pad, sha256Hashing};
 use crate::blocks::add_blocks;
 use crate::constants::BLOCK;
 use crate::constants::State;
@@ -37,7 +38,7 @@ pub impl Hash for Sha256 as Sha256Hash {
 // The hash value after the last block of the padded text. Whole blocks are read where they lie.
 fn hash_value(text: &[u8]) -> State
     requires { ⌜ length (now text) < 2 ^ 61 ⌝ }
-    ensures { λ r. ⌜ r ≡ absorb (length (pad (now (text .entry))) / 64) (pad (now (text .entry))) H0 ⌝ }
+    ensures { λ r. ⌜ r ≡ absorb compress 64 (length (pad (now (text .entry))) / 64) (pad (now (text .entry))) H0 ⌝ }
 {
     let whole = text.len() / BLOCK;
     let h = add_blocks(initial(), text, whole);

@@ -1,12 +1,14 @@
 use Prim.Native.Nat.{_*_, _/_, _≤_}
-use mathlib.Core.Path.{ap, _∙_}
+use mathlib.Core.Path.{sym, ap, _∙_}
 use mathlib.Core.List.{_++_}
 use lib.ListN.{length}
 use native.Mathlib.Omega.{arith}
 use Rattle.std.proofs.shelf.Lists.{take-rest}
+use Rattle.blocks.specs.Blocks.{absorb}
+use Rattle.blocks.proofs.Absorbed.{in-two}
 use Rattle.sha2.specs.Constants.{H0}
-use Rattle.sha2.specs.Sha256.{zerosAfter, padding, absorb}
-use Rattle.sha2.proofs.Padded.{in-two}
+use Rattle.sha2.specs.Sha256.{zerosAfter, padding, pad, compress}
+use Rattle.sha2.proofs.Padded.{blocks-pad}
 use Rattle.sha2.proofs.hash.hash_value.Needs as need
 
 pub add-blocks-requires : need.add-blocks-requires
@@ -18,13 +20,15 @@ unfolding zerosAfter
 within c = omega arith
 
 pub returns : need.returns
+unfolding pad zerosAfter
 returns c =
     let text = c .args .text .now in
-    let rest = take-rest text (64 * (length text / 64)) in
-    let tail = c .pad-rest-end .ensures .holds ∙ ap (λ r. r ++ padding (length text)) rest in
-    let tail-bytes = c .pad-rest-end .last .tail in
+    let q = length text / 64 in
     let end = c .pad-rest-end .result in
-    let whole-blocks = c .add-blocks-h .ensures ∙ ap (absorb (length text / 64) text) (c .initial .ensures) in
+    let buffer = c .pad-rest-end .last .tail in
+    let holds = c .pad-rest-end .ensures .holds ∙ ap (λ r. r ++ padding (length text)) (take-rest text (64 * q)) in
+    let whole-blocks = c .add-blocks-h .ensures ∙ ap (absorb compress 64 q text) (c .initial .ensures) in
     c .add-blocks .ensures
-    ∙ (ap (absorb (end / 64) tail-bytes) whole-blocks
-    ∙ in-two text tail-bytes H0 end (c .pad-rest-end .ensures .ends) (within c) tail)
+    ∙ (ap (absorb compress 64 (end / 64) buffer) whole-blocks
+    ∙ (in-two compress 64 q (end / 64) end text (padding (length text)) buffer H0 (omega arith) (omega arith) (within c) holds
+    ∙ ap (λ n. absorb compress 64 n (pad text) H0) (sym (blocks-pad text end (c .pad-rest-end .ensures .ends)))))

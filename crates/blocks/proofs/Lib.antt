@@ -1,0 +1,2 @@
+pub mod Absorbed
+pub mod Written

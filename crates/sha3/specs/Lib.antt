@@ -1,0 +1,3 @@
+pub mod Lanes
+pub mod Keccak
+pub mod Sha3
