@@ -1,5 +1,5 @@
 -- What a hash means, and what hashing answers and writes.
-use Prim.Native.Nat.{ℕ, _<_, _≤_, _^_}
+use Prim.Native.Nat.{ℕ, _<_, _^_}
 use lib.Dec.{leb, eqb}
 use lib.ListN.{length, replicate}
 use mathlib.Core.Bool.{Bool, cond, _&&_}

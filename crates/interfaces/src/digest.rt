@@ -1,6 +1,6 @@
 // A digest: the one type that knows how long one is.
 ghost use mathlib.Core.Path.{_≡_};
-ghost use lib.ListN.{length, replicate};
+ghost use lib.ListN.{replicate};
 ghost use Rattle.interfaces.specs.Hashing.{digestLength};
 
 pub const DIGEST_LENGTH: usize = 32;

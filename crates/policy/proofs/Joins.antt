@@ -2,9 +2,7 @@
 use Prim.Native.Nat.{ℕ, _+_, _*_, _<_, _≤_}
 use native.Mathlib.Nat.{zero-mul, suc-mul, add-comm}
 use native.Mathlib.Omega.{arith}
-use lib.Dec.{leb}
-use lib.ListN.{length, replicate, take, getD}
-use mathlib.Core.Bool.{false, cond, _&&_}
+use lib.ListN.{length, take, getD}
 use mathlib.Core.List.{List, [], _∷_, _++_, map}
 use mathlib.Core.Path.{_≡_, refl, ap, sym, _∙_}
 use Rattle.std.specs.shelf.Lists.{joined, All}
@@ -12,7 +10,7 @@ use Rattle.std.specs.declared.result.Result.the-variants.{Ok, Err}
 use Rattle.std.proofs.shelf.Lists.{length-append, length-replicate, joined-more, take-more}
 use Rattle.std.proofs.shelf.Tests.{lt-leb, le-leb, and-left, and-right, and-from, cond-true, cond-false}
 use Rattle.interfaces.specs.declared.code.Code.the-variants.{Size}
-use Rattle.interfaces.specs.Hashing.{Hashing, Lawful, zeros}
+use Rattle.interfaces.specs.Hashing.{Hashing, zeros}
 use Rattle.policy.specs.Cases.{AnyOfEightHashes292}
 use Rattle.policy.specs.Lines.{be4, fewestTrees, mostTrees}
 use Rattle.policy.specs.Strings.{orCode, joinString, joinedDigest, joinAnswer}

@@ -1,5 +1,5 @@
 -- Laws of writing digit pairs and decimals.
-use Prim.Native.Nat.{ℕ, suc, _+_, _-_, _*_, _/_, _%_, _^_, _≤_, _<_}
+use Prim.Native.Nat.{ℕ, _+_, _-_, _*_, _/_, _%_, _^_, _≤_, _<_}
 use native.Mathlib.Nat.{add-zero}
 use native.Mathlib.Omega.{arith}
 use lib.ListN.{length, take, drop, set, getD}
@@ -7,7 +7,7 @@ use mathlib.Core.List.{List, [], _∷_, _++_}
 use mathlib.Core.Path.{_≡_, refl, ap, sym, _∙_}
 use Rattle.std.specs.Written.{decimal}
 use Rattle.std.proofs.shelf.Lists.{take-more, take-more-set, drop-set-lt, append-assoc, append-nil, length-set, length-append, take-all}
-use Rattle.std.proofs.shelf.Decimals.{decimal-digit, decimal-step, length-decimal-le}
+use Rattle.std.proofs.shelf.Decimals.{decimal-step}
 use Rattle.text.specs.Pairs.{hexDigit, pairs}
 use Rattle.text.specs.Writing.{Placed}
 

@@ -6,7 +6,7 @@ ghost use Rattle.std.specs.declared.option.Option.the-variants.{Some, None};
 ghost use mathlib.Core.Bool.{false, cond};
 ghost use lib.ListN.{length, replicate};
 ghost use Rattle.std.specs.Options.{Cases, mapped, valueOr};
-ghost use Rattle.text.specs.Pairs.{hexValue, hexDigit, pairs, unpaired, ofLength};
+ghost use Rattle.text.specs.Pairs.{hexValue, unpaired, ofLength};
 use interfaces::buffer::clear;
 
 fn hex_value(c: u8) -> Option<u8>

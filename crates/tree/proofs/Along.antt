@@ -1,6 +1,6 @@
 -- The loop over a text's lines: what the rest of the lines makes of the stack is what all of them
 -- make of the empty one.
-use Prim.Native.Nat.{ℕ, suc, _+_, _≤_, _<_}
+use Prim.Native.Nat.{ℕ, suc, _+_, _≤_}
 use native.Mathlib.Omega.{arith}
 use native.Mathlib.Numerals.{add-one}
 use lib.ListN.{length}
@@ -11,9 +11,8 @@ use Rattle.std.specs.declared.option.Option.{Option}
 use Rattle.std.specs.declared.option.Option.the-variants.{Some, None}
 use Rattle.std.specs.declared.result.Result.{Result}
 use Rattle.std.specs.declared.result.Result.the-variants.{Ok, Err}
-use Rattle.interfaces.specs.declared.fault.Fault.{Fault}
 use Rattle.interfaces.specs.declared.fault.Refusal.{Refusal}
-use Rattle.interfaces.specs.Faults.{formRefusal, faultAt}
+use Rattle.interfaces.specs.Faults.{faultAt}
 use Rattle.interfaces.specs.Hashing.{Hashing, digestLength}
 use Rattle.policy.specs.Lines.{Line, start, any, extend}
 use Rattle.policy.specs.Reading.{readLine}

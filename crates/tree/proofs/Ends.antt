@@ -1,10 +1,9 @@
 -- After the last line: one tree is left, or not.
-use Prim.Native.Nat.{ℕ, zero, suc, _+_, _≤_, _<_}
+use Prim.Native.Nat.{ℕ, _≤_}
 use native.Mathlib.Nat.{add-zero}
 use native.Mathlib.Omega.{arith}
-use lib.Dec.{eqb}
 use lib.ListN.{length, getD}
-use mathlib.Core.Bool.{Bool, true, false, cond}
+use mathlib.Core.Bool.{true}
 use mathlib.Core.List.{List, [], _∷_, map}
 use mathlib.Core.Path.{_≡_, refl, ap, sym, _∙_}
 use Rattle.std.specs.declared.result.Result.{Result}
@@ -19,7 +18,7 @@ use Rattle.policy.specs.Views.{digestBytes}
 use Rattle.text.specs.Cut.{lines}
 use Rattle.tree.specs.declared.stack.Stack.{Stack}
 use Rattle.tree.specs.declared.summary.Summary.{Summary}
-use Rattle.tree.specs.Answers.{figures, figuresOf, summary}
+use Rattle.tree.specs.Answers.{figures, figuresOf}
 use Rattle.tree.specs.Stacks.{single, grown, treeFigure}
 use Rattle.tree.specs.Texts.{sizeFits, built}
 use Rattle.tree.specs.Trees.{Tree, leaf, branches, treeDigest}

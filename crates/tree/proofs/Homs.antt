@@ -1,30 +1,23 @@
 -- The stack of digests is that of the trees' digests, line by line, and branches are counted at
 -- each start.
-use Prim.Native.Nat.{ℕ, zero, suc, _+_, _-_, _≤_, _<_}
+use Prim.Native.Nat.{ℕ, zero, suc, _+_, _-_, _≤_}
 use native.Mathlib.Omega.{arith}
 use native.Mathlib.Nat.{add-zero}
 use lib.Dec.{leb}
 use lib.ListN.{length, take, drop, getD, take-append-drop}
 use mathlib.Core.Bool.{Bool, true, false, cond}
 use mathlib.Core.List.{List, [], _∷_, _++_, map}
-use mathlib.Core.Path.{_≡_, refl, ap, sym, subst, _∙_}
+use mathlib.Core.Path.{_≡_, refl, ap, sym, _∙_}
 use Rattle.std.specs.Options.{mapped}
-use Rattle.std.specs.declared.option.Option.{Option}
 use Rattle.std.specs.declared.option.Option.the-variants.{Some, None}
-use Rattle.std.specs.declared.result.Result.{Result}
-use Rattle.std.specs.declared.result.Result.the-variants.{Ok, Err}
 use Rattle.std.proofs.shelf.Lists.{map-push, length-map, length-append, take-map, drop-map, drop-more, drop-all}
 use Rattle.std.proofs.shelf.Tests.{leb-true}
-use Rattle.interfaces.specs.declared.fault.Refusal.{Refusal}
 use Rattle.interfaces.specs.Hashing.{Hashing, zeros}
-use Rattle.policy.specs.Assertions.{Assertion}
 use Rattle.policy.specs.Lines.{Line, start, any, extend}
-use Rattle.policy.specs.Reading.{readLine}
 use Rattle.policy.specs.Strings.{extended, joinedDigest}
-use Rattle.policy.specs.Views.{meant}
-use Rattle.tree.specs.Stacks.{stacked, allowed, onStack, lineStep, forest, treeFigure, digestFigure}
+use Rattle.tree.specs.Stacks.{stacked, forest, treeFigure, digestFigure}
 use Rattle.tree.specs.Trees.{Tree, leaf, step, choice, branches, forestBranches, treeDigest, forestDigests}
-use Rattle.tree.specs.Views.{allBranches, begins, starts}
+use Rattle.tree.specs.Views.{allBranches, starts}
 
 -- a function and the element at an index, with the default that goes with it
 getD-map-default : {X Y : Type 0} (f : X → Y) (xs : List X) (i : ℕ) (d : X) → getD (map f xs) i (f d) ≡ f (getD xs i d)

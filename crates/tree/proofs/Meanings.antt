@@ -2,10 +2,9 @@
 use Prim.Native.Nat.{ℕ}
 use native.Mathlib.Omega.{arith}
 use lib.Dec.{eqb}
-use lib.ListN.{replicate}
 use mathlib.Core.Bool.{Bool, true, false, cond}
 use mathlib.Core.List.{List}
-use mathlib.Core.Path.{_≡_, refl, ap, sym, subst, _∙_}
+use mathlib.Core.Path.{_≡_, refl, sym, subst, _∙_}
 use Rattle.std.specs.declared.result.Result.{Result}
 use Rattle.std.specs.declared.result.Result.the-variants.{Ok, Err}
 use Rattle.std.proofs.shelf.Tests.{eq-eqb, cond-true}
@@ -14,9 +13,9 @@ use Rattle.interfaces.specs.declared.fault.Fault.{Fault}
 use Rattle.interfaces.specs.Faults.{callRefusal, faultAt}
 use Rattle.interfaces.specs.Hashing.{Hashing, digestLength}
 use Rattle.tree.specs.declared.summary.Summary.{Summary}
-use Rattle.tree.specs.Answers.{summary, digested, answerOf, writtenOf, Means}
-use Rattle.tree.specs.Texts.{built, Builds}
-use Rattle.tree.specs.Trees.{Tree, treeDigest}
+use Rattle.tree.specs.Answers.{digested, answerOf, writtenOf, Means}
+use Rattle.tree.specs.Texts.{built}
+use Rattle.tree.specs.Trees.{Tree}
 use Rattle.tree.proofs.Complete.{refused}
 use Rattle.tree.proofs.Sound.{built-sound}
 

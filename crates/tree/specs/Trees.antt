@@ -1,6 +1,5 @@
 -- Policy trees: their branches, their digests and their lines.
 use Prim.Native.Nat.{ℕ, suc, _≤_}
-use lib.ListN.{length}
 use mathlib.Core.List.{List, [], _∷_, _++_, map}
 use mathlib.Core.Path.{_≡_}
 use Rattle.std.specs.declared.option.Option.the-variants.{None}

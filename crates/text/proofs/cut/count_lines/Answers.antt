@@ -1,8 +1,6 @@
 use native.Mathlib.Omega.{arith}
-use Prim.Native.Nat.{_+_, _<_, _^_}
 use lib.ListN.{length}
 use mathlib.Core.Path.{ap}
-use Rattle.text.specs.Cut.{lines}
 use Rattle.text.proofs.Cuts.{lines-length}
 use Rattle.text.proofs.cut.count_lines.Needs as need
 

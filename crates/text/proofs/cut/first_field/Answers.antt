@@ -1,6 +1,3 @@
-use mathlib.Core.List.{_∷_}
-use mathlib.Core.Path.{sym, ap, _∙_}
-use Rattle.text.specs.Cut.{further}
 use Rattle.text.proofs.Cuts.{fields-cut}
 use Rattle.text.proofs.cut.first_field.Needs as need
 

@@ -1,4 +1,3 @@
-use native.Mathlib.Omega.{arith}
 use Rattle.text.proofs.Digits.{digits-low, digits-high, digits-over, digits-more, digits-all}
 use Rattle.text.proofs.number.digits_value.Needs as need
 use Rattle.text.proofs.number.digits_value.Needs.{then-c-lt48·by·then-c-lt48, then-c-lt48·by·else-c-lt48·then-c-gt57}

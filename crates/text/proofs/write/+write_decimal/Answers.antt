@@ -1,9 +1,8 @@
 use native.Mathlib.Omega.{arith}
-use Prim.Native.Nat.{_+_, _%_, _/_, _<_, _^_}
-use lib.ListN.{length, take}
+use Prim.Native.Nat.{_+_, _%_, _<_}
+use lib.ListN.{length}
 use mathlib.Core.List.{[], _∷_, _++_}
-use mathlib.Core.Path.{_≡_, refl, sym, ap, _∙_}
-use Rattle.std.specs.Written.{decimal}
+use mathlib.Core.Path.{sym, ap, _∙_}
 use Rattle.std.proofs.shelf.Decimals.{decimal-digit, decimal-step, decimal-some}
 use Rattle.std.proofs.shelf.Lists.{take-more-set}
 use Rattle.text.proofs.Writes.{decimal-longer}

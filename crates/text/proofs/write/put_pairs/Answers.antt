@@ -1,6 +1,6 @@
 use native.Mathlib.Omega.{arith}
 use Prim.Native.Nat.{_/_, _%_}
-use lib.ListN.{length, getD}
+use lib.ListN.{getD}
 use mathlib.Core.Path.{_≡_, refl, ap, _∙_}
 use Rattle.text.specs.Pairs.{hexDigit}
 use Rattle.text.proofs.Writes.{pairs-length, spelled-more, spelled-all}

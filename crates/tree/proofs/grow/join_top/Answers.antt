@@ -1,9 +1,9 @@
 use borrow.Author.Needs.{needs}
 use native.Mathlib.Omega.{arith}
-use Prim.Native.Nat.{ℕ, _-_, _≤_}
-use lib.ListN.{length, take, drop}
+use Prim.Native.Nat.{ℕ, _-_}
+use lib.ListN.{take, drop}
 use mathlib.Core.Path.{_≡_, refl, sym, ap, _∙_}
-use mathlib.Core.List.{List, map}
+use mathlib.Core.List.{map}
 use Rattle.std.specs.declared.result.Result.the-variants.{Err}
 use Rattle.policy.specs.Strings.{joinedDigest}
 use Rattle.policy.specs.Views.{digestBytes}

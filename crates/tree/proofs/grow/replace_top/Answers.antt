@@ -1,6 +1,5 @@
 use borrow.Author.Needs.{needs}
 use mathlib.Core.Path.{refl}
-use native.Mathlib.Omega.{arith}
 use Rattle.policy.specs.Views.{digestBytes}
 use Rattle.tree.proofs.Tops.{front-replaced}
 use Rattle.tree.proofs.grow.replace_top.Needs as need
