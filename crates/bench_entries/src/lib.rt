@@ -1,4 +1,6 @@
 // Entries for the benchmark: the hashes by themselves, exported to C.
+#![tactic(auto)]
+
 ghost use Rattle.std.specs.Prelude.{◌≡◌, length};
 ghost use Rattle.interfaces.specs.Hashing.{hash_answer, hash_written};
 ghost use Rattle.sha256.specs.Sha256.{sha256_hashing};
@@ -7,8 +9,8 @@ ghost use Rattle.bench_entries.specs.Codes.{code_or_zero};
 
 use interfaces::code::Code;
 use interfaces::hash::Hash;
-use sha256::Sha256;
 use sha3::Sha3;
+use sha256::Sha256;
 
 // The number of a refusal's code, or 0.
 fn number(answer: Result<(), Code>) -> u16

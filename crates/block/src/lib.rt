@@ -1,4 +1,6 @@
 // A reader state read in place from a block of 1,596 bytes.
+#![tactic(auto)]
+
 pub mod block;
 mod judging;
 mod layout;

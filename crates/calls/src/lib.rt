@@ -1,4 +1,6 @@
 // Policy calls: made from their fields, or read from the lines of a run.
+#![tactic(auto)]
+
 pub mod call;
 pub mod digests;
 pub mod line;

@@ -7,8 +7,8 @@ ghost use Rattle.firmware.specs.Answers.{in_numbers};
 
 use crate::answer::Answer;
 use crate::entry::digest_entry;
-use sha256::Sha256;
 use sha3::Sha3;
+use sha256::Sha256;
 
 // Digests a policy text under SHA-256 into 32 bytes.
 #[unsafe(no_mangle)]

@@ -1,5 +1,7 @@
 // What every part of the chest speaks: response codes, faults, digests, and the interfaces of hash
 // and reader state.
+#![tactic(auto)]
+
 pub mod buffer;
 pub mod code;
 pub mod digest;

@@ -1,4 +1,6 @@
 // What a policy can assert: lines read and judged, and the strings hashed for them.
+#![tactic(auto)]
+
 pub mod assertion;
 pub mod commands;
 mod compare;

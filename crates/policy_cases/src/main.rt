@@ -1,8 +1,10 @@
 // Prints the report on each policy text that an argument names, under both hashes, to be held to
 // what an independent model says.
+#![tactic(auto)]
+
 use report::digest::digest_report;
-use sha256::Sha256;
 use sha3::Sha3;
+use sha256::Sha256;
 use std::io::Write;
 use std::{env, fs};
 

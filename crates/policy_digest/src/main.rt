@@ -1,5 +1,7 @@
 // Reads a policy text from standard input and prints its lines, branches and digest under SHA-256,
 // or its fault.
+#![tactic(auto)]
+
 ghost use Rattle.std.specs.Prelude.{◌≤◌, length, IfOk};
 
 use report::digest::digest_report;

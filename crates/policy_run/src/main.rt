@@ -1,5 +1,7 @@
 // Runs texts over a state block, each on a fresh policy session under SHA-256, and prints what each run
 // came to: `policy_run BLOCK TEXT..`, the names of files.
+#![tactic(auto)]
+
 use anyhow::anyhow;
 use report::run::run_report;
 use sha256::Sha256;

@@ -1,4 +1,6 @@
 // What the programs print, made as bytes.
+#![tactic(auto)]
+
 pub mod digest;
 mod pieces;
 pub mod report;

@@ -1,4 +1,6 @@
 // Policy and trial sessions: every call, restart, end, and runs of texts.
+#![tactic(auto)]
+
 mod calls;
 mod judge;
 pub mod kind;

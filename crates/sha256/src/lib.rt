@@ -1,4 +1,6 @@
 // SHA-256 after FIPS 180-4, as an implementation of the hash interface.
+#![tactic(auto)]
+
 mod blocks;
 mod constants;
 mod functions;

@@ -1,4 +1,6 @@
 // SHA3-256 after FIPS 202, as an implementation of the hash interface.
+#![tactic(auto)]
+
 mod constants;
 mod hash;
 mod message;

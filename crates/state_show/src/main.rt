@@ -1,4 +1,6 @@
 // Reads a state block from standard input and prints what it means, or its refusal.
+#![tactic(auto)]
+
 ghost use Rattle.std.specs.Prelude.{◌≤◌, length, IfOk};
 
 use block::BLOCK_LENGTH;

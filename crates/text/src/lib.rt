@@ -1,4 +1,6 @@
 // Texts as bytes: cut into lines and fields, digit pairs and decimals read and written.
+#![tactic(auto)]
+
 pub mod cut;
 pub mod number;
 pub mod pairs;

@@ -1,4 +1,6 @@
 // Policy texts: the tree that a text builds, its digest, its lines and its branches.
+#![tactic(auto)]
+
 pub mod digest;
 mod fold;
 mod grow;

@@ -1,12 +1,14 @@
 // Prints the digests of known messages by each hash, to be held to what another implementation says.
+#![tactic(auto)]
+
 ghost use Rattle.std.specs.Prelude.{◌≡◌, ℕ, ◌+◌, ◌*◌, ◌%◌, ◌<◌, ◌≤◌, length, IfOk, slice_index};
 
 use anyhow::anyhow;
 use interfaces::code::Code;
 use interfaces::digest::Digest;
 use interfaces::hash::Hash;
-use sha256::Sha256;
 use sha3::Sha3;
+use sha256::Sha256;
 use std::fmt;
 
 // The longest of the texts that are made here: two blocks of any hash, and a byte.
@@ -113,8 +115,8 @@ fn main(rt: HostRuntime) -> anyhow::Result<()> {
 mod tests {
     use interfaces::code::Code;
     use interfaces::hash::{HASH_LIMIT, Hash};
-    use sha256::Sha256;
     use sha3::Sha3;
+    use sha256::Sha256;
 
     #[test]
     fn limit_of_the_text(rt: HostRuntime) {
