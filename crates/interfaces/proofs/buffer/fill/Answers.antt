@@ -10,5 +10,5 @@ returns c =
     let ok = fitting_ok bs room (omega arith) in
     record {
       answer = ap counted (sym ok);
-      written = over_zeros bs _ _ room _ c.copy-from-slice.ensures.after c.clear.ensures (omega arith) ∙ ap (left_in room) (sym ok);
+      written = over_zeros bs _ _ room _ c.copy_from_slice.ensures.after c.clear.ensures (omega arith) ∙ ap (left_in room) (sym ok);
     }

@@ -29,7 +29,7 @@ returns c =
     let passed = c.in-ok-admit-pcr.ensures in
     let none = sym (flawless (pcr_flaw c.args.index room) passed.answer) in
     let is : value ≡ pcr_in bs c.args.index = get_or-map-range_with_len (pcr_in bs) 0 pcr_count c.args.index c.args.index [] passed.fits.1 (omega arith) in
-    let copied = c.copy-from-slice.ensures.after ∙ c.register.ensures.is ∙ sym is in
+    let copied = c.copy_from_slice.ensures.after ∙ c.register.ensures.is ∙ sym is in
     let long : length value ≡ room = ap length (is ∙ sym c.register.ensures.is) ∙ c.register.ensures.long ∙ sym passed.fits.0 in
     record {
       answer = ap (λ o. done (refused_with o value)) none;

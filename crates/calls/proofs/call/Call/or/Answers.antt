@@ -30,13 +30,13 @@ loop-i-preserved c =
     let i = c.loop-i.i in
     let all = c.loop-i.all in
     let inv = c.loop-i.invariant in
-    let bytes = c.copy-from-slice.new.self in
+    let bytes = c.copy_from_slice.new.self in
     let digest : Digest = record { bytes = bytes } in
     let within : i < length all = omega (arith, inv.0, c.loop-i-test.true, c.if-digests-gt-MOST-DIGESTS.false) in
     let front = map digest_bytes (take i all) in
     let grown : map digest_bytes (take (i + 1) (set all i digest)) ≡ front ++ bytes ∷ [] = ap (map digest_bytes) (take_more_set all i digest within) ∙ map_push digest_bytes (take i all) digest in
     let more = map_more (λ x. x.now) xs i (record { ref_ptr = (0, 0); now = [] }) c.loop-i-test.true in
-    let same = c.copy-from-slice.ensures.after in
+    let same = c.copy_from_slice.ensures.after in
     let long : length bytes ≡ digest_length = search rules in (
       length-set all i digest ∙ inv.0,
       grown ∙ (λ j. inv.1 j ++ same j ∷ []) ∙ sym more,

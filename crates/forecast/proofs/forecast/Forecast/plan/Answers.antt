@@ -18,7 +18,7 @@ returns g c =
     let long : length value ≡ pcr_length = search rules in
     let within : index < pcr_count = search rules in
     let flaw : full_flaw eqb plan_count plans index ≡ plan_flaw plans index value = sym (plan_passes plans index value long within) in
-    let after = c.put.ensures.after ∙ (λ i. settled (flaw i) (put_under eqb plans index (c.copy-from-slice.ensures.after i)) plans) in
+    let after = c.put.ensures.after ∙ (λ i. settled (flaw i) (put_under eqb plans index (c.copy_from_slice.ensures.after i)) plans) in
     record {
       answer = c.put.ensures.answer ∙ ap (λ r. refused_with r tt) flaw;
       plans = after;

@@ -42,8 +42,8 @@ returns g c =
     let found = place_some eqb plans index c.in-Some.place (plan_of e) (sym c.in-Some.ensures.value) in
     let value = ap (λ x. x.1) (used_at plan_of p.used p.entries c.in-Some.place e c.in-Some.ensures.within known) in
     let here = overlaid_at plans 0 index s.pcrs index [] (omega arith) within ∙ ap (λ o. unwrap_or o (get_or s.pcrs index [])) found ∙ value in
-    let out = c.copy-from-slice.new.self in
-    let read = pcr_read (forecast_snapshot plans s) index room fits.0 fits.1 ∙ ap Ok (here ∙ sym c.copy-from-slice.ensures.after) in
+    let out = c.copy_from_slice.new.self in
+    let read = pcr_read (forecast_snapshot plans s) index room fits.0 fits.1 ∙ ap Ok (here ∙ sym c.copy_from_slice.ensures.after) in
     let long : length out ≡ room = search rules in
     record {
       answer = sym (ap done read);

@@ -12,7 +12,7 @@ returns c =
     let fits = c.in-ok-admit-pcr.ensures.fits in
     let read = pcr_read s c.args.index (length c.args.out.now) fits.0 fits.1 in
     let p = c.index-self-index.result in
-    let out = c.copy-from-slice.new.self in
+    let out = c.copy_from_slice.new.self in
     let here : out ≡ get_or s.pcrs c.args.index [] = search (rules, get_or-map) in
     let long : length out ≡ length c.args.out.now = search rules in
     record {
