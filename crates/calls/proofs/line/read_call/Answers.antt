@@ -7,5 +7,5 @@ use Rattle.calls.proofs.line.read_call.Goals as goal
 
 pub returns : goal.returns
 returns c =
-    let value = c.read-word.ensures ∙ sym (ap (λ fs. judged (call_line_flaw digest_length) (parse_call_fields fs)) c.first-field.ensures) in
+    let value = c.read_word.ensures ∙ sym (ap (λ fs. judged (call_line_flaw digest_length) (parse_call_fields fs)) c.first_field.ensures) in
     record { value = value; reads = subst (ReadsCall digest_length c.args.line.now) (sym value) (reads digest_length c.args.line.now) }

@@ -4,48 +4,48 @@ use Rattle.conditions.proofs.compare.compare.Goals as goal
 
 pub returns-in-SignedGreater : goal.returns-in-SignedGreater
 returns-in-SignedGreater c =
-    let d = signs_differ c.args.a.now c.args.b.now _ _ c.is-negative-a-negative.ensures c.is-negative-b-negative.ensures c.if-a-negative-b-negative.true in
+    let d = signs_differ c.args.a.now c.args.b.now _ _ c.is_negative-a_negative.ensures c.is_negative-b_negative.ensures c.if-a_negative-b_negative.true in
     search rules
 
 pub returns-in-SignedGreater-2 : goal.returns-in-SignedGreater-2
 returns-in-SignedGreater-2 c =
-    let p = fit_bytes c.args.a.now c.type-inv.a in
-    let q = fit_bytes c.args.b.now c.type-inv.b in
-    let d = signs_same c.args.a.now c.args.b.now c.requires p q _ _ c.is-negative-a-negative.ensures c.is-negative-b-negative.ensures c.if-a-negative-b-negative.false in
+    let p = fit_bytes c.args.a.now c.type_inv.a in
+    let q = fit_bytes c.args.b.now c.type_inv.b in
+    let d = signs_same c.args.a.now c.args.b.now c.requires p q _ _ c.is_negative-a_negative.ensures c.is_negative-b_negative.ensures c.if-a_negative-b_negative.false in
     search rules
 
 pub returns-in-SignedLess : goal.returns-in-SignedLess
 returns-in-SignedLess c =
-    let d = signs_differ c.args.a.now c.args.b.now _ _ c.is-negative-a-negative.ensures c.is-negative-b-negative.ensures c.if-a-negative-b-negative-2.true in
+    let d = signs_differ c.args.a.now c.args.b.now _ _ c.is_negative-a_negative.ensures c.is_negative-b_negative.ensures c.if-a_negative-b_negative-2.true in
     search rules
 
 pub returns-in-SignedLess-2 : goal.returns-in-SignedLess-2
 returns-in-SignedLess-2 c =
-    let p = fit_bytes c.args.a.now c.type-inv.a in
-    let q = fit_bytes c.args.b.now c.type-inv.b in
-    let d = signs_same c.args.a.now c.args.b.now c.requires p q _ _ c.is-negative-a-negative.ensures c.is-negative-b-negative.ensures c.if-a-negative-b-negative-2.false in
+    let p = fit_bytes c.args.a.now c.type_inv.a in
+    let q = fit_bytes c.args.b.now c.type_inv.b in
+    let d = signs_same c.args.a.now c.args.b.now c.requires p q _ _ c.is_negative-a_negative.ensures c.is_negative-b_negative.ensures c.if-a_negative-b_negative-2.false in
     search rules
 
 pub returns-in-SignedGreaterOrEqual : goal.returns-in-SignedGreaterOrEqual
 returns-in-SignedGreaterOrEqual c =
-    let d = signs_differ c.args.a.now c.args.b.now _ _ c.is-negative-a-negative.ensures c.is-negative-b-negative.ensures c.if-a-negative-b-negative-3.true in
+    let d = signs_differ c.args.a.now c.args.b.now _ _ c.is_negative-a_negative.ensures c.is_negative-b_negative.ensures c.if-a_negative-b_negative-3.true in
     search rules
 
 pub returns-in-SignedGreaterOrEqual-2 : goal.returns-in-SignedGreaterOrEqual-2
 returns-in-SignedGreaterOrEqual-2 c =
-    let p = fit_bytes c.args.a.now c.type-inv.a in
-    let q = fit_bytes c.args.b.now c.type-inv.b in
-    let d = signs_same c.args.a.now c.args.b.now c.requires p q _ _ c.is-negative-a-negative.ensures c.is-negative-b-negative.ensures c.if-a-negative-b-negative-3.false in
+    let p = fit_bytes c.args.a.now c.type_inv.a in
+    let q = fit_bytes c.args.b.now c.type_inv.b in
+    let d = signs_same c.args.a.now c.args.b.now c.requires p q _ _ c.is_negative-a_negative.ensures c.is_negative-b_negative.ensures c.if-a_negative-b_negative-3.false in
     search rules
 
 pub returns-in-SignedLessOrEqual : goal.returns-in-SignedLessOrEqual
 returns-in-SignedLessOrEqual c =
-    let d = signs_differ c.args.a.now c.args.b.now _ _ c.is-negative-a-negative.ensures c.is-negative-b-negative.ensures c.if-a-negative-b-negative-4.true in
+    let d = signs_differ c.args.a.now c.args.b.now _ _ c.is_negative-a_negative.ensures c.is_negative-b_negative.ensures c.if-a_negative-b_negative-4.true in
     search rules
 
 pub returns-in-SignedLessOrEqual-2 : goal.returns-in-SignedLessOrEqual-2
 returns-in-SignedLessOrEqual-2 c =
-    let p = fit_bytes c.args.a.now c.type-inv.a in
-    let q = fit_bytes c.args.b.now c.type-inv.b in
-    let d = signs_same c.args.a.now c.args.b.now c.requires p q _ _ c.is-negative-a-negative.ensures c.is-negative-b-negative.ensures c.if-a-negative-b-negative-4.false in
+    let p = fit_bytes c.args.a.now c.type_inv.a in
+    let q = fit_bytes c.args.b.now c.type_inv.b in
+    let d = signs_same c.args.a.now c.args.b.now c.requires p q _ _ c.is_negative-a_negative.ensures c.is_negative-b_negative.ensures c.if-a_negative-b_negative-4.false in
     search rules

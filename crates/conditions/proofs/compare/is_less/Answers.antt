@@ -10,8 +10,8 @@ returns-then-a-i c =
     let a = c.args.a.now in
     let b = c.args.b.now in
     let i = c.loop-i.i in
-    let p = fit_bytes a c.type-inv.a in
-    let q = fit_bytes b c.type-inv.b in
+    let p = fit_bytes a c.type_inv.a in
+    let q = fit_bytes b c.type_inv.b in
     let within : i < length b = omega arith in
     ⊎_elim
     (λ h. lt-ltb _ _ h ∙ sym (lt-ltb _ _ (first_decides a b i c.requires p q c.loop-i-test.true c.loop-i.invariant h)))

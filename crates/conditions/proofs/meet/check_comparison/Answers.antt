@@ -9,10 +9,10 @@ compare-requires c = search (rules, length-take-le, length-drop)
 
 pub returns-then-not-compare : goal.returns-then-not-compare
 returns-then-not-compare c =
-    let told = compared c.args.past c.args.value.now (comparison_of c.args.comparison.now) c.as-slice-operand.result.now _ _ c.as-slice-operand.ensures (omega arith) (omega arith) c.compare.ensures in
+    let told = compared c.args.past c.args.value.now (comparison_of c.args.comparison.now) c.as_slice-operand.result.now _ _ c.as_slice-operand.ensures (omega arith) (omega arith) c.compare.ensures in
     search rules
 
 pub returns : goal.returns
 returns c =
-    let told = compared c.args.past c.args.value.now (comparison_of c.args.comparison.now) c.as-slice-operand.result.now _ _ c.as-slice-operand.ensures (omega arith) (omega arith) c.compare.ensures in
+    let told = compared c.args.past c.args.value.now (comparison_of c.args.comparison.now) c.as_slice-operand.result.now _ _ c.as_slice-operand.ensures (omega arith) (omega arith) c.compare.ensures in
     search rules

@@ -12,7 +12,7 @@ returns-in-Ok g c =
     let name = c.args.name.now.bytes in
     let k = comparison_of c.args.comparison.now in
     let long : length name ≡ name_length = search rules in
-    let out = c.stored-value.new.out in
-    let held = stored_left s name out c.in-Ok.len value_limit long refl (sym c.in-Ok.is ∙ c.stored-value.ensures.answer) c.stored-value.ensures.written in
-    let told = c.as-call.ensures (comparison_unmet NvRange (take c.in-Ok.len out) k) c.check-comparison.ensures in
+    let out = c.stored_value.new.out in
+    let held = stored_left s name out c.in-Ok.len value_limit long refl (sym c.in-Ok.is ∙ c.stored_value.ensures.answer) c.stored_value.ensures.written in
+    let told = c.as_call.ensures (comparison_unmet NvRange (take c.in-Ok.len out) k) c.check_comparison.ensures in
     search rules

@@ -7,5 +7,5 @@ pub returns : goal.returns
 returns g c =
     let s = g.S.ReaderState.observed c.args.state.now in
     let law = g.met.S.ReaderState.lawful c.args.state.now in
-    let info = c.time-info.ensures.written ∙ left_whole s.time time_length law.time_long in
+    let info = c.time_info.ensures.written ∙ left_whole s.time time_length law.time_long in
     search rules

@@ -9,7 +9,7 @@ pub returns-in-Pcr : goal.returns-in-Pcr
 returns-in-Pcr g c =
     let h = g.H.Hash.meaning c.args.hash.now in
     let s = g.S.ReaderState.observed c.args.state.now in
-    let told = c.as-call.ensures (pcrs_unmet h s c.in-Pcr.selection.bytes c.in-Pcr.digest.bytes) c.check-pcrs.ensures in
+    let told = c.as_call.ensures (pcrs_unmet h s c.in-Pcr.selection.bytes c.in-Pcr.digest.bytes) c.check_pcrs.ensures in
     record {
       comparisons = comparisons;
       selections = selections;

@@ -3,5 +3,5 @@ use Rattle.interfaces.specs.States.{pcr_length}
 use Rattle.tables.proofs.Bytes.{zeros-small}
 use Rattle.forecast.proofs.table.empty_entry.Goals as goal
 
-pub invariant-of-result : goal.invariant-of-result
-invariant-of-result c = (refl, (zeros-small pcr_length, tt))
+pub invariant_of-result : goal.invariant_of-result
+invariant_of-result c = (refl, (zeros-small pcr_length, tt))

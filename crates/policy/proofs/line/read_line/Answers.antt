@@ -6,5 +6,5 @@ use Rattle.policy.proofs.line.read_line.Goals as goal
 
 pub returns : goal.returns
 returns c =
-    let value = c.read-fields.ensures in
+    let value = c.read_fields.ensures in
     record { value = value; reads = subst (Reads digest_length c.args.line.now) (sym value) (reads digest_length c.args.line.now) }

@@ -16,8 +16,8 @@ returns c =
     let f = shown_need (codes "presence") p.presence in
     let h = shown_need (codes "password") p.password in
     let front = take c.args.at c.args.all.now in
-    let counted = c.append-recorded-count-at.ensures.front ∙ ap (λ l. l ++ b) c.append-bytes-at.ensures.front in
-    let commanded = c.append-recorded-command-at.ensures.front ∙ ap (λ l. l ++ d) counted in
-    let set = c.append-recorded-set-at.ensures.front ∙ ap (λ l. l ++ e) commanded in
-    let present = c.append-need-at.ensures.front ∙ ap (λ l. l ++ f) set in
-    record { front = c.append-need.ensures.front ∙ ap (λ l. l ++ h) present ∙ six_pieces front a b d e f h; short = search rules }
+    let counted = c.append_recorded_count-at.ensures.front ∙ ap (λ l. l ++ b) c.append_bytes-at.ensures.front in
+    let commanded = c.append_recorded_command-at.ensures.front ∙ ap (λ l. l ++ d) counted in
+    let set = c.append_recorded_set-at.ensures.front ∙ ap (λ l. l ++ e) commanded in
+    let present = c.append_need-at.ensures.front ∙ ap (λ l. l ++ f) set in
+    record { front = c.append_need.ensures.front ∙ ap (λ l. l ++ h) present ∙ six_pieces front a b d e f h; short = search rules }

@@ -7,4 +7,4 @@ use Rattle.report.proofs.state.append_entries.Goals as goal
 pub loop-i-preserved : goal.loop-i-preserved
 loop-i-preserved c =
     let shown = shown_entry (block_bytes c.args.block.now) in
-    (omega arith, joined_step shown (take c.args.at c.args.all.now) _ _ c.loop-i.i c.append-entry-end.ensures.front c.loop-i.invariant.1)
+    (omega arith, joined_step shown (take c.args.at c.args.all.now) _ _ c.loop-i.i c.append_entry-end.ensures.front c.loop-i.invariant.1)

@@ -4,8 +4,8 @@ use Rattle.block.specs.Views.{block_bytes}
 use Rattle.report.proofs.Shown.{entry_lengths}
 use Rattle.report.proofs.state.append_entry.Goals as goal
 
-pub append-value-requires : goal.append-value-requires
-append-value-requires c =
+pub append_value-requires : goal.append_value-requires
+append_value-requires c =
     let block = c.args.block.now in
     let some = sym (ap (option_map (λ p. (p.0.now, p.1.now))) c.unwrap.ensures) ∙ c.entry.ensures in
     let lengths = entry_lengths (block_bytes block) c.args.i _ _ block.long block.sound c.requires.number some in

@@ -10,7 +10,7 @@ use Rattle.report.proofs.state.append_pcrs.Goals as goal
 pub loop-index-preserved : goal.loop-index-preserved
 loop-index-preserved c =
     let shown = shown_pcr (block_snapshot (block_bytes c.args.block.now)).pcrs in
-    (omega arith, joined_step shown [] _ _ c.loop-index.index c.append-pcr-end.ensures.front c.loop-index.invariant.1)
+    (omega arith, joined_step shown [] _ _ c.loop-index.index c.append_pcr-end.ensures.front c.loop-index.invariant.1)
 
 pub returns : goal.returns
 returns c =

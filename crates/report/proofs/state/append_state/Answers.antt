@@ -17,9 +17,9 @@ returns c =
     let entries = flat_map (shown_entry bs) (range_with_len 0 (number_in bs)) in
     let time = shown_time s.time in
     let locality = labelled (codes "locality") (decimal s.locality) in
-    let counted = piece_more pcrs count c.append-count-at.ensures.front c.append-pcrs-at.ensures.front (ap (λ n. labelled (codes "count") (decimal n)) c.change-count.ensures) in
-    let valued = piece_more (pcrs ++ count) entries c.append-entries-at.ensures.front counted refl in
-    let timed = piece_more (pcrs ++ count ++ entries) time c.append-time-at.ensures.front valued refl in
-    let placed = piece_more (pcrs ++ count ++ entries ++ time) locality c.append-count-at-2.ensures.front timed (ap (λ n. labelled (codes "locality") (decimal n)) c.locality.ensures) in
-    let all = piece_more (pcrs ++ count ++ entries ++ time ++ locality) (shown_presence s.presence) c.append-presence.ensures.front placed (ap shown_presence c.presence.ensures) in
+    let counted = piece_more pcrs count c.append_count-at.ensures.front c.append_pcrs-at.ensures.front (ap (λ n. labelled (codes "count") (decimal n)) c.change_count.ensures) in
+    let valued = piece_more (pcrs ++ count) entries c.append_entries-at.ensures.front counted refl in
+    let timed = piece_more (pcrs ++ count ++ entries) time c.append_time-at.ensures.front valued refl in
+    let placed = piece_more (pcrs ++ count ++ entries ++ time) locality c.append_count-at-2.ensures.front timed (ap (λ n. labelled (codes "locality") (decimal n)) c.locality.ensures) in
+    let all = piece_more (pcrs ++ count ++ entries ++ time ++ locality) (shown_presence s.presence) c.append_presence.ensures.front placed (ap shown_presence c.presence.ensures) in
     record { front = all; short = search rules }

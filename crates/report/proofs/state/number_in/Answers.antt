@@ -8,13 +8,13 @@ use Rattle.report.proofs.state.number_in.Goals as goal
 index_below : (info : List ℕ) (at len k : ℕ) → len ≤ 8 → k < length (take (at + len - at) (drop at info)) → k < 8
 index_below info at len k s h = omega (arith, length-take (at + len - at) (drop at info))
 
-pub overflow-mul-n : goal.overflow-mul-n
-overflow-mul-n c =
+pub overflow_mul-n : goal.overflow_mul-n
+overflow_mul-n c =
     let below = index_below c.args.info.now c.args.at c.args.len c.loop-b.b-index c.requires.short c.loop-b-test.true in
     omega (arith, number_fits c.loop-b.n c.loop-b.b-index 0 below c.loop-b.invariant.1 (omega arith))
 
-pub overflow-add-n : goal.overflow-add-n
-overflow-add-n c =
+pub overflow_add-n : goal.overflow_add-n
+overflow_add-n c =
     let items = take (c.args.at + c.args.len - c.args.at) (drop c.args.at c.args.info.now) in
     let k = c.loop-b.b-index in
     let below = index_below c.args.info.now c.args.at c.args.len k c.requires.short c.loop-b-test.true in

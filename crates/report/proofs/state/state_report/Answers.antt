@@ -7,17 +7,17 @@ use Rattle.report.proofs.Shown.{refused_shown, taken-shown}
 use Rattle.report.proofs.state.state_report.Goals as goal
 use Rattle.report.proofs.state.state_report.Goals.{in-Ok, in-Err}
 
-pub invariant-of-result : goal.invariant-of-result
-invariant-of-result c =
+pub invariant_of-result : goal.invariant_of-result
+invariant_of-result c =
     elim c.match-load.branch [
-      | in-Ok w ↦ (omega (arith, w.len-is, w.append-state-len.ensures.short), tt)
-      | in-Err w ↦ (omega (arith, w.len-is, w.append-fault-len.ensures.short), tt)
+      | in-Ok w ↦ (omega (arith, w.len-is, w.append_state-len.ensures.short), tt)
+      | in-Err w ↦ (omega (arith, w.len-is, w.append_fault-len.ensures.short), tt)
     ]
 
 pub returns : goal.returns
 returns c =
     let bs = c.args.bytes.now in
     elim c.match-load.branch [
-      | in-Ok w ↦ (λ i. take (w.len-is i) (w.all-is i)) ∙ w.append-state-len.ensures.front ∙ taken-shown (block_flaw bs) bs (block_bytes c.load.new.self) _ w.in-Ok.ensures.answer c.load.ensures.after
-      | in-Err w ↦ (λ i. take (w.len-is i) (w.all-is i)) ∙ w.append-fault-len.ensures.front ∙ ap shown_fault (w.at.ensures ∙ ap (fault_at 0) w.call.ensures) ∙ refused_shown (block_flaw bs) bs w.in-Err.code w.in-Err.ensures.answer
+      | in-Ok w ↦ (λ i. take (w.len-is i) (w.all-is i)) ∙ w.append_state-len.ensures.front ∙ taken-shown (block_flaw bs) bs (block_bytes c.load.new.self) _ w.in-Ok.ensures.answer c.load.ensures.after
+      | in-Err w ↦ (λ i. take (w.len-is i) (w.all-is i)) ∙ w.append_fault-len.ensures.front ∙ ap shown_fault (w.at.ensures ∙ ap (fault_at 0) w.call.ensures) ∙ refused_shown (block_flaw bs) bs w.in-Err.code w.in-Err.ensures.answer
     ]

@@ -12,7 +12,7 @@ returns-then-not-checked g c =
     let s = g.S.ReaderState.observed c.args.state.now in
     let p = progress_of c.args.progress.now in
     let call = call_of c.args.call.now in
-    let left = left_to_state c.args.checked h s p call (g.met.H.Hash.lawful c.args.hash.now).long c.requires (passed _ c.in-default.ensures) in
+    let left = left_to_state c.args.checked h s p call (g.met.H.Hash.lawful c.args.hash.now).long c.requires (passed _ c.in_default.ensures) in
     sym (ap (λ f. refused_by f tt) (left ∙ ap (λ b. cond b (state_flaw h s p call) None) c.if-not-checked.true))
 
 pub returns : goal.returns
@@ -21,5 +21,5 @@ returns g c =
     let s = g.S.ReaderState.observed c.args.state.now in
     let p = progress_of c.args.progress.now in
     let call = call_of c.args.call.now in
-    let left = left_to_state c.args.checked h s p call (g.met.H.Hash.lawful c.args.hash.now).long c.requires (passed _ c.in-default.ensures) in
-    c.judge-state.ensures ∙ sym (ap (λ f. refused_by f tt) (left ∙ ap (λ b. cond b (state_flaw h s p call) None) c.if-not-checked.false))
+    let left = left_to_state c.args.checked h s p call (g.met.H.Hash.lawful c.args.hash.now).long c.requires (passed _ c.in_default.ensures) in
+    c.judge_state.ensures ∙ sym (ap (λ f. refused_by f tt) (left ∙ ap (λ b. cond b (state_flaw h s p call) None) c.if-not-checked.false))

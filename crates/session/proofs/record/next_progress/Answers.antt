@@ -6,6 +6,6 @@ use Rattle.session.proofs.record.next_progress.Goals as goal
 
 pub unwrap-digest-requires : goal.unwrap-digest-requires
 unwrap-digest-requires g c =
-    let ds = c.as-slice.result.now in
+    let ds = c.as_slice.result.now in
     let long = length-map ds digest_bytes in
-    joins (g.H.Hash.meaning c.args.hash.now) (map digest_bytes ds) c.join-digests.result (omega (arith, long, c.as-slice.ensures.some)) (omega (arith, long, c.as-slice.ensures.few)) c.join-digests.ensures.value
+    joins (g.H.Hash.meaning c.args.hash.now) (map digest_bytes ds) c.join_digests.result (omega (arith, long, c.as_slice.ensures.some)) (omega (arith, long, c.as_slice.ensures.few)) c.join_digests.ensures.value

@@ -8,14 +8,14 @@ pub loop-word-init : goal.loop-word-init
 loop-word-init c = (refl, refl)
 
 pub put-end-requires : goal.put-end-requires
-put-end-requires c = omega (arith, ap length c.to-be-bytes.ensures)
+put-end-requires c = omega (arith, ap length c.to_be_bytes.ensures)
 
 pub loop-word-preserved : goal.loop-word-preserved
 unfolding word_bytes
 loop-word-preserved c =
     let more = take_more c.args.h c.loop-word.word-index 0 (omega arith) in
     let joins = flat_map_more word_bytes [] (take c.loop-word.word-index c.args.h) (get_or c.args.h c.loop-word.word-index 0) in
-    (omega (arith, ap length c.to-be-bytes.ensures), cc)
+    (omega (arith, ap length c.to_be_bytes.ensures), cc)
 
 pub returns : goal.returns
 returns c =

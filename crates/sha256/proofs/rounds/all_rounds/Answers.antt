@@ -22,7 +22,7 @@ loop-i-preserved c =
     let in_w : n ≤ length w = omega (arith, length-schedule c.args.block.now) in
     let four : length c.loop-i.a ≡ 4 = c.loop-i.auto.a.0 in
     let moved = window_moves c.args.block.now c.loop-i.a c.loop-i.b c.loop-i.c c.loop-i.d
-    c.next-words-next.result n four c.loop-i.invariant.0 c.next-words-next.ensures in
+    c.next_words-next.result n four c.loop-i.invariant.0 c.next_words-next.ensures in
     let words = window_words c.args.block.now c.loop-i.a (c.loop-i.b ++ (c.loop-i.c ++ c.loop-i.d)) n
     four (omega arith) c.loop-i.invariant.0 in
     (cc, cc (rounds-more K w c.args.start n in_K in_w))

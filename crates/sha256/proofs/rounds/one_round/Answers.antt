@@ -5,4 +5,4 @@ use Rattle.sha256.proofs.rounds.one_round.Goals as goal
 
 pub returns : goal.returns
 unfolding round T1 T2
-returns c = cc (four_terms (get_or c.args.v 7 0) c.big-sigma1.result c.ch.result c.args.sum)
+returns c = cc (four_terms (get_or c.args.v 7 0) c.big_sigma1.result c.ch.result c.args.sum)

@@ -4,4 +4,4 @@ use Rattle.sha256.proofs.schedule.small_sigma0.Goals as goal
 
 pub returns : goal.returns
 unfolding σ0 SHR
-returns c = rw (c.rotate-right.ensures, c.rotate-right-2.ensures, four c.args.x c.fits-x.0)
+returns c = rw (c.rotate_right.ensures, c.rotate_right-2.ensures, four c.args.x c.fits-x.0)

@@ -19,8 +19,8 @@ one_more i s out bytes part in-s in-out inv eb ep =
 pub loop-i-preserved : goal.loop-i-preserved
 unfolding lane_bytes
 loop-i-preserved c =
-    one_more c.loop-i.i c.args.s c.loop-i.out c.to-le-bytes.result c.copy_from_slice.new.self (omega arith)
-    (omega arith) c.loop-i.invariant c.to-le-bytes.ensures c.copy_from_slice.ensures.after
+    one_more c.loop-i.i c.args.s c.loop-i.out c.to_le_bytes.result c.copy_from_slice.new.self (omega arith)
+    (omega arith) c.loop-i.invariant c.to_le_bytes.ensures c.copy_from_slice.ensures.after
 
 pub returns : goal.returns
 returns c =

@@ -12,8 +12,8 @@ one_more step ks a s next i k h es ek en = cc (fold_more step a ks i 0 h)
 
 pub loop-i-preserved : goal.loop-i-preserved
 loop-i-preserved c =
-    one_more Rnd (constants 24 0) c.args.start c.loop-i.s c.round-next.result c.loop-i.i c.round-constant.result
-    (omega arith) c.loop-i.invariant c.round-constant.ensures c.round-next.ensures
+    one_more Rnd (constants 24 0) c.args.start c.loop-i.s c.round-next.result c.loop-i.i c.round_constant.result
+    (omega arith) c.loop-i.invariant c.round_constant.ensures c.round-next.ensures
 
 pub returns : goal.returns
 unfolding keccak_f

@@ -17,5 +17,5 @@ one_more i m start s mixed next es em en =
 
 pub loop-i-preserved : goal.loop-i-preserved
 loop-i-preserved c =
-    one_more c.loop-i.i c.args.bytes.now c.args.start c.loop-i.s c.add-lanes.result c.keccak-f-next.result
-    c.loop-i.invariant c.add-lanes.ensures c.keccak-f-next.ensures
+    one_more c.loop-i.i c.args.bytes.now c.args.start c.loop-i.s c.add_lanes.result c.keccak_f-next.result
+    c.loop-i.invariant c.add_lanes.ensures c.keccak_f-next.ensures

@@ -13,4 +13,4 @@ one_more i x start block s es ex = let more : i + 1 ≡ suc i = omega arith in r
 
 pub loop-i-preserved : goal.loop-i-preserved
 loop-i-preserved c =
-    one_more c.loop-i.i c.lane-at.result c.args.start c.args.block.now c.loop-i.s c.loop-i.invariant c.lane-at.ensures
+    one_more c.loop-i.i c.lane_at.result c.args.start c.args.block.now c.loop-i.s c.loop-i.invariant c.lane_at.ensures

@@ -5,8 +5,8 @@ use Rattle.tables.proofs.Bytes.{Small, bytes_small}
 use Rattle.state.proofs.Changed.{hashed, one-behind-other}
 use Rattle.state.proofs.setting.extended.Goals as goal
 
-pub invariant-of-result : goal.invariant-of-result
-invariant-of-result c =
+pub invariant_of-result : goal.invariant_of-result
+invariant_of-result c =
     let t = c.put-2.new.out in
     let short : length t ≤ 65536 = search rules in
     let is = c.hash.ensures.written ∙ hashed t short in

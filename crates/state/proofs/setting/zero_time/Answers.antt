@@ -3,5 +3,5 @@ use Rattle.interfaces.specs.States.{time_length}
 use Rattle.tables.proofs.Bytes.{zeros-small}
 use Rattle.state.proofs.setting.zero_time.Goals as goal
 
-pub invariant-of-result : goal.invariant-of-result
-invariant-of-result c = (refl, (zeros-small time_length, tt))
+pub invariant_of-result : goal.invariant_of-result
+invariant_of-result c = (refl, (zeros-small time_length, tt))

@@ -2,5 +2,5 @@ use Rattle.std.proofs.Common.{refl, lit≤}
 use Rattle.tables.proofs.Bytes.{zeros-small}
 use Rattle.state.proofs.table.empty_entry.Goals as goal
 
-pub invariant-of-result : goal.invariant-of-result
-invariant-of-result c = (refl, (zeros-small 64, (lit≤ tt, tt)))
+pub invariant_of-result : goal.invariant_of-result
+invariant_of-result c = (refl, (zeros-small 64, (lit≤ tt, tt)))

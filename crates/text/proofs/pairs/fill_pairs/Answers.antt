@@ -12,7 +12,7 @@ pub loop-i-preserved : goal.loop-i-preserved
 loop-i-preserved c =
     below_more _ _
     (λ k h. let ne : k ≢ c.loop-i.i = omega arith in rw get_or-set_other (c.loop-i.invariant k h))
-    (let lt : c.loop-i.i < length c.loop-i.out = omega arith in rw get_or-set_same c.pair-value.ensures)
+    (let lt : c.loop-i.i < length c.loop-i.out = omega arith in rw get_or-set_same c.pair_value.ensures)
 
 pub returns : goal.returns
 returns c = filled c.args.field.now c.loop-i.out (c.requires ∙ ap Some (sym c.loop-i.auto.out)) (λ k h. c.loop-i.invariant k (omega arith))

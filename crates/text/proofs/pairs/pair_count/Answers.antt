@@ -8,9 +8,9 @@ returns-then-field-ne0 c =
     let odd = odd_none c.args.field.now (omega arith) in
     record { value = sym (ap (option_map length) odd); bytes = odd }
 
-pub returns-then-is-none : goal.returns-then-is-none
-returns-then-is-none c =
-    let digit = sym c.hex-value.ensures ∙ not_some c.hex-value.result c.if-is-none.ensures in
+pub returns-then-is_none : goal.returns-then-is_none
+returns-then-is_none c =
+    let digit = sym c.hex_value.ensures ∙ not_some c.hex_value.result c.if-is_none.ensures in
     let bad = bad_none c.args.field.now c.loop-c.c-index c.loop-c-test.true digit in
     record { value = sym (ap (option_map length) bad); bytes = bad }
 

@@ -13,21 +13,21 @@ returns-then-n-lt10 t c =
     let some : 0 < length c.args.out.now = omega (arith, c.requires, ap length one) in
     record { len = sym (ap length one); front = take_more_set c.args.out.now 0 (48 + c.args.n) some ∙ sym one }
 
-pub write-decimal-at-requires : goal.write-decimal-at-requires
-write-decimal-at-requires t c = omega (arith, c.requires, decimal_longer c.args.n c.if-n-lt10.false c.ranges.n.fits)
+pub write_decimal-at-requires : goal.write_decimal-at-requires
+write_decimal-at-requires t c = omega (arith, c.requires, decimal_longer c.args.n c.if-n-lt10.false c.ranges.n.fits)
 
 pub bounds-out-at : goal.bounds-out-at
-bounds-out-at t c = omega (arith, c.requires, decimal_longer c.args.n c.if-n-lt10.false c.ranges.n.fits, c.write-decimal-at.ensures.len)
+bounds-out-at t c = omega (arith, c.requires, decimal_longer c.args.n c.if-n-lt10.false c.ranges.n.fits, c.write_decimal-at.ensures.len)
 
-pub overflow-add-result : goal.overflow-add-result
-overflow-add-result t c = omega (arith, c.requires, decimal_longer c.args.n c.if-n-lt10.false c.ranges.n.fits, c.write-decimal-at.ensures.len)
+pub overflow_add-result : goal.overflow_add-result
+overflow_add-result t c = omega (arith, c.requires, decimal_longer c.args.n c.if-n-lt10.false c.ranges.n.fits, c.write_decimal-at.ensures.len)
 
 pub returns : goal.returns
 returns t c =
-    let told = c.write-decimal-at.ensures in
+    let told = c.write_decimal-at.ensures in
     let longer = decimal_longer c.args.n c.if-n-lt10.false c.ranges.n.fits in
-    let room : c.write-decimal-at.result < length c.write-decimal-at.new.out = omega (arith, c.requires, longer, told.len, c.write-decimal-at.auto.out) in
+    let room : c.write_decimal-at.result < length c.write_decimal-at.new.out = omega (arith, c.requires, longer, told.len, c.write_decimal-at.auto.out) in
     record {
       len = omega (arith, longer, told.len);
-      front = take_more_set c.write-decimal-at.new.out c.write-decimal-at.result (48 + c.args.n % 10) room ∙ ap (λ l. l ++ (48 + c.args.n % 10) ∷ []) told.front ∙ sym (decimal_step c.args.n c.if-n-lt10.false c.ranges.n.fits);
+      front = take_more_set c.write_decimal-at.new.out c.write_decimal-at.result (48 + c.args.n % 10) room ∙ ap (λ l. l ++ (48 + c.args.n % 10) ∷ []) told.front ∙ sym (decimal_step c.args.n c.if-n-lt10.false c.ranges.n.fits);
     }

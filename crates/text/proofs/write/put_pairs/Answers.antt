@@ -15,8 +15,8 @@ returns-then-at-out c =
 pub loop-i-preserved : goal.loop-i-preserved
 loop-i-preserved c =
     let b = get_or c.args.bytes.now c.loop-i.i 0 in
-    let high : b / 16 % 16 ≡ b / 16 = omega (arith, (c.type-inv.bytes c.loop-i.i).fits) in
-    rw (c.hex-digit.ensures ∙ ap hex_digit high, c.hex-digit-in-loop-i.ensures)
+    let high : b / 16 % 16 ≡ b / 16 = omega (arith, (c.type_inv.bytes c.loop-i.i).fits) in
+    rw (c.hex_digit.ensures ∙ ap hex_digit high, c.hex_digit-in-loop-i.ensures)
     (spelled_more c.args.out.now c.args.at c.args.bytes.now c.loop-i.i _ c.loop-i.out c.loop-i-test.true refl (omega arith) c.loop-i.invariant)
 
 pub returns : goal.returns

@@ -4,7 +4,7 @@ use Rattle.tree.proofs.digest.digest_text.Goals as goal
 
 pub returns : goal.returns
 returns g c =
-    let told = c.write-digest.ensures in
+    let told = c.write_digest.ensures in
     record {
       answer = told.answer;
       written = told.written;

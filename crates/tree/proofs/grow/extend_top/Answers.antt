@@ -13,7 +13,7 @@ returns g c =
     let n = front_length digest_bytes st.digests st.height w in
     let top = front_top digest_bytes st.digests st.height w (st.height - 1) (record { bytes = [] }) (zeros h) (omega arith) in
     record {
-      grew = grew_extend h (stack_of st) _ _ (assertion_of c.args.assertion.now) _ (omega arith) (top ∙ ap (λ k. get_or (stack_of st) (k - 1) (zeros h)) (sym n)) refl (c.replace-top.ensures.digests ∙ ap (replaced 1 (stack_of st)) c.extend-digest-digest.ensures.value);
+      grew = grew_extend h (stack_of st) _ _ (assertion_of c.args.assertion.now) _ (omega arith) (top ∙ ap (λ k. get_or (stack_of st) (k - 1) (zeros h)) (sym n)) refl (c.replace_top.ensures.digests ∙ ap (replaced 1 (stack_of st)) c.extend_digest-digest.ensures.value);
       height = search rules;
       branches = search rules;
     }

@@ -9,9 +9,9 @@ pub returns-in-Start : goal.returns-in-Start
 returns-in-Start g c =
     let h = g.H.Hash.meaning c.args.hash.now in
     let s = stack_of c.args.stack.now in
-    let after = stack_of c.begin-tree.new.stack in
+    let after = stack_of c.begin_tree.new.stack in
     record {
-      grew = subst (λ l. Grew (allowed (stacked (digest_figure h) (line_of l) s)) s (Ok tt) after) (sym c.in-Start.is) (grew_start h s after (Ok tt) refl c.begin-tree.ensures.digests);
+      grew = subst (λ l. Grew (allowed (stacked (digest_figure h) (line_of l) s)) s (Ok tt) after) (sym c.in-Start.is) (grew_start h s after (Ok tt) refl c.begin_tree.ensures.digests);
       height = search rules;
       branches = search rules;
     }

@@ -27,7 +27,7 @@ returns-in-Ok g c =
     let joined = join_some h ds (omega arith) (omega arith) in
     let value : c.in-Ok.digest.bytes ≡ joined_digest h ds = cc in
     record {
-      grew = grew_join h (stack_of st) _ _ c.args.trees (omega arith) refl (c.replace-top.ensures.digests ∙ ap (replaced c.args.trees (stack_of st)) (value ∙ ap (joined_digest h) (top ∙ ap (λ k. drop (k - c.args.trees) (stack_of st)) (sym n))));
+      grew = grew_join h (stack_of st) _ _ c.args.trees (omega arith) refl (c.replace_top.ensures.digests ∙ ap (replaced c.args.trees (stack_of st)) (value ∙ ap (joined_digest h) (top ∙ ap (λ k. drop (k - c.args.trees) (stack_of st)) (sym n))));
       height = search rules;
       branches = search rules;
     }

@@ -3,5 +3,5 @@ use Rattle.tables.proofs.Bytes.{zeros-small}
 use Rattle.block.specs.Layout.{block_length}
 use Rattle.block.proofs.block.Block.blank.Goals as goal
 
-pub invariant-of-result : goal.invariant-of-result
-invariant-of-result c = (refl, (refl, (zeros-small block_length, tt)))
+pub invariant_of-result : goal.invariant_of-result
+invariant_of-result c = (refl, (refl, (zeros-small block_length, tt)))

@@ -9,16 +9,16 @@ use Rattle.block.specs.Views.{block_bytes, observed_block}
 use Rattle.block.proofs.Refusals.{flawless, refused_answer, refused_left}
 use Rattle.block.proofs.reading.BlockReaderState.pcr.Goals as goal
 
-pub returns-in-err-admit-pcr : goal.returns-in-err-admit-pcr
-returns-in-err-admit-pcr c =
+pub returns-in_err-admit_pcr : goal.returns-in_err-admit_pcr
+returns-in_err-admit_pcr c =
     let room = length c.args.out.now in
     let flaw = pcr_flaw c.args.index room in
     let value = get_or (observed_block c.args.self.now).pcrs c.args.index [] in
-    let refused = c.in-err-admit-pcr.ensures.answer in
+    let refused = c.in_err-admit_pcr.ensures.answer in
     let p = err_from_is_err_and c.from-residual.result c.from-residual.ensures.1 in
     record {
       answer = p.1 ∙ ap Err p.2 ∙ refused_answer flaw _ value refused;
-      written = c.admit-pcr.ensures.after ∙ refused_left flaw _ c.args.out.now value room refused;
+      written = c.admit_pcr.ensures.after ∙ refused_left flaw _ c.args.out.now value room refused;
     }
 
 pub returns : goal.returns
@@ -26,7 +26,7 @@ returns c =
     let room = length c.args.out.now in
     let bs = block_bytes c.args.self.now in
     let value = get_or (observed_block c.args.self.now).pcrs c.args.index [] in
-    let passed = c.in-ok-admit-pcr.ensures in
+    let passed = c.in_ok-admit_pcr.ensures in
     let none = sym (flawless (pcr_flaw c.args.index room) passed.answer) in
     let is : value ≡ pcr_in bs c.args.index = get_or-map-range_with_len (pcr_in bs) 0 pcr_count c.args.index c.args.index [] passed.fits.1 (omega arith) in
     let copied = c.copy_from_slice.ensures.after ∙ c.register.ensures.is ∙ sym is in

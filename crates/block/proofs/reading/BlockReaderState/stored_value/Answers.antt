@@ -10,15 +10,15 @@ use Rattle.block.proofs.Ranges.{ranges}
 use Rattle.block.proofs.Refusals.{flawless}
 use Rattle.block.proofs.reading.BlockReaderState.stored_value.Goals as goal
 
-pub returns-in-default : goal.returns-in-default
-returns-in-default c =
+pub returns-in_default : goal.returns-in_default
+returns-in_default c =
     let bs = block_bytes c.args.self.now in
     let name = c.args.name.now in
     let out = c.args.out.now in
     let state = observed_block c.args.self.now in
-    let none = flawless (stored_flaw name (length out)) c.in-ok-admit-stored.ensures.answer in
-    let kept = ap length (c.admit-stored.ensures.after ∙ ap (λ o. settled o out (replicate (length out) 0)) none) in
-    let read : read_stored state name (length out) ≡ Err Handle = ap (λ o. unless_flawed o (held_value (state.stored name))) none ∙ ap held_value (no_value bs name c.in-default.ensures) in
+    let none = flawless (stored_flaw name (length out)) c.in_ok-admit_stored.ensures.answer in
+    let kept = ap length (c.admit_stored.ensures.after ∙ ap (λ o. settled o out (replicate (length out) 0)) none) in
+    let read : read_stored state name (length out) ≡ Err Handle = ap (λ o. unless_flawed o (held_value (state.stored name))) none ∙ ap held_value (no_value bs name c.in_default.ensures) in
     record {
       answer = sym (ap counted read);
       written = c.clear.ensures ∙ ap (λ n. replicate n 0) kept ∙ sym (ap (left_in (length out)) read);
@@ -34,12 +34,12 @@ returns c =
     let out = c.args.out.now in
     let place = c.in-Some.place in
     let state = observed_block c.args.self.now in
-    let room = length c.admit-stored.new.out in
-    let none = flawless (stored_flaw name (length out)) c.in-ok-admit-stored.ensures.answer in
-    let kept = ap length (c.admit-stored.ensures.after ∙ ap (λ o. settled o out (replicate (length out) 0)) none) in
+    let room = length c.admit_stored.new.out in
+    let none = flawless (stored_flaw name (length out)) c.in_ok-admit_stored.ensures.answer in
+    let kept = ap length (c.admit_stored.ensures.after ∙ ap (λ o. settled o out (replicate (length out) 0)) none) in
     let read : read_stored state name (length out) ≡ Ok (value_in bs place) = ap (λ o. unless_flawed o (held_value (state.stored name))) none ∙ ap held_value (placed_value bs name place c.in-Some.ensures) in
     let short = value_short bs place ((ranges bs c.args.self.now.sound).lengths place (place_within bs name place c.in-Some.ensures)) in
-    let fits : length (value_in bs place) ≤ room = omega (arith, c.in-ok-admit-stored.ensures.fits.1) in
+    let fits : length (value_in bs place) ≤ room = omega (arith, c.in_ok-admit_stored.ensures.fits.1) in
     let filled : fitting c.value.result.now room ≡ read_stored state name (length out) = ap (λ v. fitting v room) c.value.ensures ∙ fitting_ok (value_in bs place) room fits ∙ sym read in
     record {
       answer = c.fill.ensures.answer ∙ ap counted filled;

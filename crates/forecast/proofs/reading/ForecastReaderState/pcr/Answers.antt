@@ -9,19 +9,19 @@ use Rattle.forecast.specs.Views.{plan_of, plans_of}
 use Rattle.forecast.specs.Overlays.{overlaid_at}
 use Rattle.forecast.proofs.reading.ForecastReaderState.pcr.Goals as goal
 
-pub returns-in-default : goal.returns-in-default
-returns-in-default g c =
+pub returns-in_default : goal.returns-in_default
+returns-in_default g c =
     let f = c.args.self.now in
     let s = g.S.ReaderState.observed f.below in
     let plans = plans_of f.planned in
     let index = c.args.index in
     let room = length c.args.out.now in
-    let fits = c.in-ok-admit-pcr.ensures.fits in
+    let fits = c.in_ok-admit_pcr.ensures.fits in
     let within : index < length s.pcrs = omega (arith, fits.1, (g.met.S.ReaderState.lawful f.below).pcrs_all) in
-    let none = place_none eqb plans index (sym c.in-default.ensures.value) in
+    let none = place_none eqb plans index (sym c.in_default.ensures.value) in
     let here = overlaid_at plans 0 index s.pcrs index [] (omega arith) within ∙ ap (λ o. unwrap_or o (get_or s.pcrs index [])) none in
     let read = pcr_read s index room fits.0 fits.1 ∙ sym (pcr_read (forecast_snapshot plans s) index room fits.0 fits.1 ∙ ap Ok here) in
-    let kept : length c.admit-pcr.new.out ≡ room = search rules in
+    let kept : length c.admit_pcr.new.out ≡ room = search rules in
     record {
       answer = c.pcr.ensures.answer ∙ ap (λ n. done (read_pcr s index n)) kept ∙ ap done read;
       written = c.pcr.ensures.written ∙ ap (λ n. left_in n (read_pcr s index n)) kept ∙ ap (left_in room) read;
@@ -35,7 +35,7 @@ returns g c =
     let plans = plans_of p in
     let index = c.args.index in
     let room = length c.args.out.now in
-    let fits = c.in-ok-admit-pcr.ensures.fits in
+    let fits = c.in_ok-admit_pcr.ensures.fits in
     let within : index < length s.pcrs = omega (arith, fits.1, (g.met.S.ReaderState.lawful f.below).pcrs_all) in
     let e = c.index-self-place.result in
     let known : p.used ≤ length p.entries = search rules in

@@ -11,8 +11,8 @@ returns c =
     let r = c.args.self.now in
     let plans = plans_of r.state.planned in
     let before = plain plans (own_snapshot r.state.below) r.unplanned in
-    let after = plain plans (own_snapshot c.put-value.new.self) r.unplanned in
+    let after = plain plans (own_snapshot c.put_value.new.self) r.unplanned in
     let name = c.args.name.now in
     let value = c.args.value.now in
-    let told = subst (λ s. Put s name value c.put-value.result (own_snapshot c.put-value.new.self)) (sym before) c.put-value.ensures in
-    subst (λ s. Put (forecast_snapshot plans (own_snapshot r.state.below)) name value c.put-value.result s) (sym after) told
+    let told = subst (λ s. Put s name value c.put_value.result (own_snapshot c.put_value.new.self)) (sym before) c.put_value.ensures in
+    subst (λ s. Put (forecast_snapshot plans (own_snapshot r.state.below)) name value c.put_value.result s) (sym after) told

@@ -11,6 +11,6 @@ returns c =
     let r = c.args.self.now in
     let plans = plans_of r.state.planned in
     let before = plain plans (own_snapshot r.state.below) r.unplanned in
-    let after = plain plans (own_snapshot c.set-locality.new.self) r.unplanned in
+    let after = plain plans (own_snapshot c.set_locality.new.self) r.unplanned in
     let l = c.args.locality in
-    record { answer = c.set-locality.ensures.answer; after = after ∙ c.set-locality.ensures.after ∙ ap (λ s. settled (set_locality_flaw l) (with_locality s l) s) (sym before) }
+    record { answer = c.set_locality.ensures.answer; after = after ∙ c.set_locality.ensures.after ∙ ap (λ s. settled (set_locality_flaw l) (with_locality s l) s) (sym before) }

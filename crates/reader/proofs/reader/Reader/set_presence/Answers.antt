@@ -10,5 +10,5 @@ returns c =
     let r = c.args.self.now in
     let plans = plans_of r.state.planned in
     let before = plain plans (own_snapshot r.state.below) r.unplanned in
-    let after = plain plans (own_snapshot c.set-presence.new.self) r.unplanned in
-    after ∙ c.set-presence.ensures ∙ ap (λ s. with_presence s c.args.presence) (sym before)
+    let after = plain plans (own_snapshot c.set_presence.new.self) r.unplanned in
+    after ∙ c.set_presence.ensures ∙ ap (λ s. with_presence s c.args.presence) (sym before)

@@ -11,6 +11,6 @@ returns c =
     let r = c.args.self.now in
     let plans = plans_of r.state.planned in
     let before = plain plans (own_snapshot r.state.below) r.unplanned in
-    let after = plain plans (own_snapshot c.set-time-info.new.self) r.unplanned in
+    let after = plain plans (own_snapshot c.set_time_info.new.self) r.unplanned in
     let info = c.args.info.now in
-    record { answer = c.set-time-info.ensures.answer; after = after ∙ c.set-time-info.ensures.after ∙ ap (λ s. settled (set_time_flaw info) (with_time s info) s) (sym before) }
+    record { answer = c.set_time_info.ensures.answer; after = after ∙ c.set_time_info.ensures.after ∙ ap (λ s. settled (set_time_flaw info) (with_time s info) s) (sym before) }

@@ -17,8 +17,8 @@ returns-in-Ok g c =
     let line = c.args.line.now in
     let read = ap (λ n. read_call n line) (g.met.H.Hash.lawful self.hash).long ∙ sym c.in-Ok.ensures.value in
     record {
-      answer = c.step.ensures.answer ∙ ap (λ b. refused_by (refusal b h s p (call_of c.in-Ok.call)) tt) c.is-checked-checked.ensures ∙ ap (λ r. refused_by (read_refusal ch h s p r) tt) (sym read);
-      after = c.step.ensures.after ∙ ap (λ b. stepped b h s p (call_of c.in-Ok.call)) c.is-checked-checked.ensures ∙ ap (λ r. read_after ch h s p r) (sym read);
+      answer = c.step.ensures.answer ∙ ap (λ b. refused_by (refusal b h s p (call_of c.in-Ok.call)) tt) c.is_checked-checked.ensures ∙ ap (λ r. refused_by (read_refusal ch h s p r) tt) (sym read);
+      after = c.step.ensures.after ∙ ap (λ b. stepped b h s p (call_of c.in-Ok.call)) c.is_checked-checked.ensures ∙ ap (λ r. read_after ch h s p r) (sym read);
       hash = refl;
       kind = refl;
     }

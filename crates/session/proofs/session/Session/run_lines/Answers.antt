@@ -21,9 +21,9 @@ returns-in-Err g c =
     let next : n + 1 ≡ suc n = omega arith in
     record {
       answer = ap Err (c.at.ensures ∙ ap (λ k. fault_at k c.in-Err.refusal) next) ∙ sym (answer_refused ch h s n line more p c.in-Err.refusal refused) ∙ sym (ap (λ ls. lines_answer ch h s n ls p) cut) ∙ inv.3;
-      after = c.run-line.ensures.after ∙ (λ i. line_after (g.K.Kind.checked (inv.1 i)) (g.H.Hash.meaning (inv.0 i)) s p line) ∙ sym (after_refused ch h s n line more p c.in-Err.refusal refused) ∙ sym (ap (λ ls. lines_after ch h s ls p) cut) ∙ inv.4;
-      hash = c.run-line.ensures.hash ∙ inv.0;
-      kind = c.run-line.ensures.kind ∙ inv.1;
+      after = c.run_line.ensures.after ∙ (λ i. line_after (g.K.Kind.checked (inv.1 i)) (g.H.Hash.meaning (inv.0 i)) s p line) ∙ sym (after_refused ch h s n line more p c.in-Err.refusal refused) ∙ sym (ap (λ ls. lines_after ch h s ls p) cut) ∙ inv.4;
+      hash = c.run_line.ensures.hash ∙ inv.0;
+      kind = c.run_line.ensures.kind ∙ inv.1;
     }
 
 pub loop-line-preserved : goal.loop-line-preserved
@@ -33,16 +33,16 @@ loop-line-preserved g c =
     let h = g.H.Hash.meaning c.args.self.now.hash in
     let s = g.S.ReaderState.observed c.args.state.now in
     let p = progress_of c.loop-line.self.progress in
-    let later = progress_of c.run-line.new.self.progress in
+    let later = progress_of c.run_line.new.self.progress in
     let n = c.loop-line.count in
     let line = c.in-Some.line.now in
     let more = lines c.in-Some.more.now in
     let cut : lines c.loop-line.rest.now ≡ line ∷ more = c.in-Some.ensures.cut in
-    let accepted : line_refusal ch h s p line ≡ None = (λ i. line_refusal (g.K.Kind.checked (sym inv.1 i)) (g.H.Hash.meaning (sym inv.0 i)) s p line) ∙ accepted_by _ c.in-default-run-line.ensures.answer in
-    let stepped : later ≡ line_after ch h s p line = c.run-line.ensures.after ∙ (λ i. line_after (g.K.Kind.checked (inv.1 i)) (g.H.Hash.meaning (inv.0 i)) s p line) in
+    let accepted : line_refusal ch h s p line ≡ None = (λ i. line_refusal (g.K.Kind.checked (sym inv.1 i)) (g.H.Hash.meaning (sym inv.0 i)) s p line) ∙ accepted_by _ c.in_default-run_line.ensures.answer in
+    let stepped : later ≡ line_after ch h s p line = c.run_line.ensures.after ∙ (λ i. line_after (g.K.Kind.checked (inv.1 i)) (g.H.Hash.meaning (inv.0 i)) s p line) in
     let next : n + 1 ≡ suc n = omega arith in (
-      c.run-line.ensures.hash ∙ inv.0,
-      c.run-line.ensures.kind ∙ inv.1,
+      c.run_line.ensures.hash ∙ inv.0,
+      c.run_line.ensures.kind ∙ inv.1,
       omega (arith, inv.2, ap length cut),
       (λ i. lines_answer ch h s (next i) more (stepped i)) ∙ sym (answer_accepted ch h s n line more p accepted) ∙ sym (ap (λ ls. lines_answer ch h s n ls p) cut) ∙ inv.3,
       ap (lines_after ch h s more) stepped ∙ sym (after_accepted ch h s n line more p accepted) ∙ sym (ap (λ ls. lines_after ch h s ls p) cut) ∙ inv.4,

@@ -2,5 +2,5 @@ use Rattle.std.proofs.Common.{replicate, arith, rules}
 use Rattle.tables.proofs.Bytes.{zeros-small, wrote_small}
 use Rattle.state.proofs.entry.StoredValue.new.Goals as goal
 
-pub invariant-of-result : goal.invariant-of-result
-invariant-of-result c = (search rules, (wrote_small (replicate 64 0) c.args.value.now c.put.new.out c.put.result _ c.put.ensures c.unwrap-len.ensures (λ k. omega (arith, (c.type-inv.value k).fits)) (zeros-small 64), (search rules, tt)))
+pub invariant_of-result : goal.invariant_of-result
+invariant_of-result c = (search rules, (wrote_small (replicate 64 0) c.args.value.now c.put.new.out c.put.result _ c.put.ensures c.unwrap-len.ensures (λ k. omega (arith, (c.type_inv.value k).fits)) (zeros-small 64), (search rules, tt)))

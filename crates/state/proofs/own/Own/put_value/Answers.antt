@@ -9,18 +9,18 @@ use Rattle.state.specs.Entries.{value_bytes, value_count}
 use Rattle.state.specs.Views.{held, own_snapshot}
 use Rattle.state.proofs.Changed.{holding, with_held, put_settled, lengths_pass, name_refused, value_refused}
 use Rattle.state.proofs.own.Own.put_value.Goals as goal
-use Rattle.state.proofs.own.Own.put_value.Goals.{then-name-ne-NAME-LENGTH-via-then-name-ne-NAME-LENGTH, then-name-ne-NAME-LENGTH-via-else-name-ne-NAME-LENGTH+then-value-gt-VALUE-LIMIT}
+use Rattle.state.proofs.own.Own.put_value.Goals.{then-name-ne-NAME_LENGTH-via-then-name-ne-NAME_LENGTH, then-name-ne-NAME_LENGTH-via-else-name-ne-NAME_LENGTH+then-value-gt-VALUE_LIMIT}
 
-pub returns-then-name-ne-NAME-LENGTH : goal.returns-then-name-ne-NAME-LENGTH
-returns-then-name-ne-NAME-LENGTH c =
+pub returns-then-name-ne-NAME_LENGTH : goal.returns-then-name-ne-NAME_LENGTH
+returns-then-name-ne-NAME_LENGTH c =
     let v = c.args.self.now.values in
     let s = own_snapshot c.args.self.now in
     let name = c.args.name.now in
     let value = c.args.value.now in
     let flaw : put_flaw s (length (held v)) name value ≡ Some Size =
-    elim c.then-name-ne-NAME-LENGTH.branch [
-      | then-name-ne-NAME-LENGTH-via-then-name-ne-NAME-LENGTH w ↦ name_refused s (length (held v)) name value w.if-name-ne-NAME-LENGTH.true
-      | then-name-ne-NAME-LENGTH-via-else-name-ne-NAME-LENGTH+then-value-gt-VALUE-LIMIT w ↦ value_refused s (length (held v)) name value w.if-value-gt-VALUE-LIMIT.true
+    elim c.then-name-ne-NAME_LENGTH.branch [
+      | then-name-ne-NAME_LENGTH-via-then-name-ne-NAME_LENGTH w ↦ name_refused s (length (held v)) name value w.if-name-ne-NAME_LENGTH.true
+      | then-name-ne-NAME_LENGTH-via-else-name-ne-NAME_LENGTH+then-value-gt-VALUE_LIMIT w ↦ value_refused s (length (held v)) name value w.if-value-gt-VALUE_LIMIT.true
     ]
     in
     record {

@@ -9,7 +9,7 @@ use Rattle.state.proofs.reading.OwnReaderState.pcr.Goals as goal
 pub returns : goal.returns
 returns c =
     let s = own_snapshot c.args.self.now in
-    let fits = c.in-ok-admit-pcr.ensures.fits in
+    let fits = c.in_ok-admit_pcr.ensures.fits in
     let read = pcr_read s c.args.index (length c.args.out.now) fits.0 fits.1 in
     let p = c.index-self-index.result in
     let out = c.copy_from_slice.new.self in

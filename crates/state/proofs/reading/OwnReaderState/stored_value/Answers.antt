@@ -11,13 +11,13 @@ use Rattle.tables.proofs.Used.{used_at}
 use Rattle.state.specs.Lawful.{stored_short}
 use Rattle.state.proofs.reading.OwnReaderState.stored_value.Goals as goal
 
-pub returns-in-default : goal.returns-in-default
-returns-in-default c =
+pub returns-in_default : goal.returns-in_default
+returns-in_default c =
     let s = own_snapshot c.args.self.now in
     let name = c.args.name.now in
     let room = length c.args.out.now in
-    let fits = c.in-ok-admit-stored.ensures.fits in
-    let none = place_none bytes_eq (held c.args.self.now.values) name (sym c.place-found.ensures.value ∙ c.in-default.is) in
+    let fits = c.in_ok-admit_stored.ensures.fits in
+    let none = place_none bytes_eq (held c.args.self.now.values) name (sym c.place-found.ensures.value ∙ c.in_default.is) in
     let read = stored_read s name room fits.0 fits.1 ∙ ap held_value none in
     record { answer = sym (ap counted read); written = search rules ∙ sym (ap (left_in room) read) }
 
@@ -36,7 +36,7 @@ returns c =
     let s = own_snapshot c.args.self.now in
     let name = c.args.name.now in
     let room = length c.args.out.now in
-    let fits = c.in-ok-admit-stored.ensures.fits in
+    let fits = c.in_ok-admit_stored.ensures.fits in
     let e = c.index-self-place.result in
     let known : v.used ≤ length v.entries = search rules in
     let found = place_some bytes_eq (held v) name c.in-Some.place (entry_of e) (sym c.place-found.ensures.value ∙ c.in-Some.is) in
@@ -45,8 +45,8 @@ returns c =
     let here : value_under bytes_eq (held v) name ≡ Some value = found ∙ ap (λ p. Some p.1) (at ∙ ap entry_of (sym c.index-self-place.is)) in
     let read = stored_read s name room fits.0 fits.1 ∙ ap held_value here in
     let short : length value ≤ room = omega (arith, stored_short v name value here, fits.1) in
-    let given : c.as-slice.result.now ≡ value = search rules in
-    let kept : length c.admit-stored.new.out ≡ room = search rules in
+    let given : c.as_slice.result.now ≡ value = search rules in
+    let kept : length c.admit_stored.new.out ≡ room = search rules in
     let ok = (λ i. fitting (given i) (kept i)) ∙ fitting_ok value room short in
     record {
       answer = c.fill.ensures.answer ∙ ap counted ok ∙ sym (ap counted read);

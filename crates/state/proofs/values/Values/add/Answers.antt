@@ -9,30 +9,30 @@ use Rattle.tables.proofs.Used.{used_length, put_behind, full, room_left}
 use Rattle.state.proofs.Changed.{put_once}
 use Rattle.state.proofs.values.Values.add.Goals as goal
 
-pub returns-then-used-ge-VALUE-COUNT : goal.returns-then-used-ge-VALUE-COUNT
-returns-then-used-ge-VALUE-COUNT c =
+pub returns-then-used-ge-VALUE_COUNT : goal.returns-then-used-ge-VALUE_COUNT
+returns-then-used-ge-VALUE_COUNT c =
     let v = c.args.self.now in
     let e = c.args.entry in
     let long = used_length entry_of v.used v.entries (omega (arith, v.all, v.within)) in
-    let flaw = full bytes_eq value_count (held v) e.name.bytes c.requires (omega (arith, long, c.if-used-ge-VALUE-COUNT.true)) in
+    let flaw = full bytes_eq value_count (held v) e.name.bytes c.requires (omega (arith, long, c.if-used-ge-VALUE_COUNT.true)) in
     record {
       answer = sym (ap (λ f. refused_with f tt) flaw);
       after = sym (ap (λ f. settled f (put_under bytes_eq (held v) e.name.bytes (value_bytes e.value)) (held v)) flaw);
     }
 
-pub invariant-of-self : goal.invariant-of-self
-invariant-of-self c =
+pub invariant_of-self : goal.invariant_of-self
+invariant_of-self c =
     let v = c.args.self.now in
     let e = c.args.entry in
-    (length-set v.entries v.used e ∙ v.all, (omega (arith, c.if-used-ge-VALUE-COUNT.false), (ap (distinct bytes_eq) (put_behind entry_of v.used v.entries bytes_eq e c.requires (omega (arith, v.all, c.if-used-ge-VALUE-COUNT.false))) ∙ put_once v e, tt)))
+    (length-set v.entries v.used e ∙ v.all, (omega (arith, c.if-used-ge-VALUE_COUNT.false), (ap (distinct bytes_eq) (put_behind entry_of v.used v.entries bytes_eq e c.requires (omega (arith, v.all, c.if-used-ge-VALUE_COUNT.false))) ∙ put_once v e, tt)))
 
 pub returns : goal.returns
 returns c =
     let v = c.args.self.now in
     let e = c.args.entry in
     let long = used_length entry_of v.used v.entries (omega (arith, v.all, v.within)) in
-    let flaw = room_left bytes_eq value_count (held v) e.name.bytes (omega (arith, long, c.if-used-ge-VALUE-COUNT.false)) in
+    let flaw = room_left bytes_eq value_count (held v) e.name.bytes (omega (arith, long, c.if-used-ge-VALUE_COUNT.false)) in
     record {
       answer = sym (ap (λ f. refused_with f tt) flaw);
-      after = put_behind entry_of v.used v.entries bytes_eq e c.requires (omega (arith, v.all, c.if-used-ge-VALUE-COUNT.false)) ∙ sym (ap (λ f. settled f (put_under bytes_eq (held v) e.name.bytes (value_bytes e.value)) (held v)) flaw);
+      after = put_behind entry_of v.used v.entries bytes_eq e c.requires (omega (arith, v.all, c.if-used-ge-VALUE_COUNT.false)) ∙ sym (ap (λ f. settled f (put_under bytes_eq (held v) e.name.bytes (value_bytes e.value)) (held v)) flaw);
     }

@@ -10,7 +10,7 @@ use Rattle.state.proofs.Changed.{put_once}
 use Rattle.state.proofs.values.Values.put.Goals as goal
 
 pub add-requires : goal.add-requires
-add-requires c = sym c.place-found.ensures.value ∙ c.in-default.is
+add-requires c = sym c.place-found.ensures.value ∙ c.in_default.is
 
 pub listed : goal.listed
 listed c = let h = c.in-Some.ensures.within in search rules
@@ -21,8 +21,8 @@ offset-bounds-self-place c = let h = c.in-Some.ensures.within in search rules
 pub bounds-self-place : goal.bounds-self-place
 bounds-self-place c = let h = c.in-Some.ensures.within in search rules
 
-pub invariant-of-self : goal.invariant-of-self
-invariant-of-self c =
+pub invariant_of-self : goal.invariant_of-self
+invariant_of-self c =
     let v = c.args.self.now in
     let e = c.args.entry in
     let at : place_under bytes_eq (held v) e.name.bytes ≡ Some c.in-Some.place = sym c.place-found.ensures.value ∙ c.in-Some.is in
