@@ -27,7 +27,7 @@ fn check_pcrs<H: Hash, S: ReaderState>(
     selection: &Selection,
     digest: &Digest,
 ) -> Result<(), Code>
-    ensures { result ≡ refused_with (pcrs_unmet (meaning hash.now) (observed state.now) selection.now.bytes digest.now.bytes) tt }
+    ensures { result ≡ refused_with (pcrs_unmet (H.meaning hash.now) (S.observed state.now) selection.now.bytes digest.now.bytes) tt }
 {
     let found = picked_digest(hash, state, selection);
     if same(&found.bytes, &digest.bytes) {
@@ -67,7 +67,7 @@ fn check_stored<S: ReaderState>(
     name: &Name,
     comparison: &Comparison,
 ) -> Result<(), Refusal>
-    ensures { result ≡ refused_by (stored_unmet ((observed state.now).stored name.now.bytes) (comparison_of comparison.now)) tt }
+    ensures { result ≡ refused_by (stored_unmet ((S.observed state.now).stored name.now.bytes) (comparison_of comparison.now)) tt }
 {
     let mut value = [0; VALUE_LIMIT];
     match state.stored_value(&name.bytes, &mut value) {
@@ -77,7 +77,7 @@ fn check_stored<S: ReaderState>(
 }
 
 fn check_time<S: ReaderState>(state: &S, comparison: &Comparison) -> Result<(), Code>
-    ensures { result ≡ refused_with (comparison_unmet Range (observed state.now).time (comparison_of comparison.now)) tt }
+    ensures { result ≡ refused_with (comparison_unmet Range (S.observed state.now).time (comparison_of comparison.now)) tt }
 {
     let mut info = [0; TIME_LENGTH];
     // A buffer of this length is never refused.
@@ -93,7 +93,7 @@ pub fn meet<H: Hash, S: ReaderState>(
 ) -> Result<(), Refusal>
     ensures comparisons { WorkedComparisons }
     ensures selections { WorkedSelections }
-    ensures value { result ≡ refused_by (unmet (meaning hash.now) (observed state.now) (assertion_of assertion.now)) tt }
+    ensures value { result ≡ refused_by (unmet (H.meaning hash.now) (S.observed state.now) (assertion_of assertion.now)) tt }
 {
     match assertion {
         Assertion::Pcr(selection, digest) => as_call(check_pcrs(hash, state, selection, digest)),

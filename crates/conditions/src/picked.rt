@@ -25,7 +25,7 @@ fn append_pcr<S: ReaderState>(state: &S, index: usize, all: &mut [u8], at: usize
     requires number { index < pcr_count }
     requires room { at + pcr_length ≤ length all.old }
     ensures end { result ≡ at + pcr_length }
-    ensures front { take result all.new ≡ take at all.old ++ slice_index_or (observed state.now).pcrs index [] }
+    ensures front { take result all.new ≡ take at all.old ++ slice_index_or (S.observed state.now).pcrs index [] }
 {
     let end = at + PCR_LENGTH;
     // A PCR of this number is read into a buffer of this length without refusal.
@@ -37,7 +37,7 @@ fn append_pcr<S: ReaderState>(state: &S, index: usize, all: &mut [u8], at: usize
 fn append_picked<S: ReaderState>(state: &S, selection: &Selection, all: &mut [u8]) -> usize
     requires { length all.old ≡ pcr_count * pcr_length }
     ensures within { result ≤ pcr_count * pcr_length }
-    ensures front { take result all.new ≡ picked selection.now.bytes (observed state.now).pcrs }
+    ensures front { take result all.new ≡ picked selection.now.bytes (S.observed state.now).pcrs }
 {
     let mut end = 0;
     for j in 0..SELECTION_LENGTH {
@@ -56,7 +56,7 @@ pub(crate) fn picked_digest<H: Hash, S: ReaderState>(
     state: &S,
     selection: &Selection,
 ) -> Digest
-    ensures { result.bytes ≡ (meaning hash.now).digest (picked selection.now.bytes (observed state.now).pcrs) }
+    ensures { result.bytes ≡ (H.meaning hash.now).digest (picked selection.now.bytes (S.observed state.now).pcrs) }
 {
     let mut text = [0; JOINED_LIMIT];
     let len = append_picked(state, selection, &mut text);

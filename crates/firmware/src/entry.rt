@@ -9,7 +9,7 @@ use tree::digest::digest_text;
 
 pub(crate) fn digest_entry<H: Hash>(hash: &H, text: &[u8], out: &mut [u8]) -> Answer
     ensures answer { result ≡ in_numbers (answer_of text.now (digested text.now (length out.old))) }
-    ensures written { out.new ≡ written_of (meaning hash.now) (length out.old) (digested text.now (length out.old)) }
+    ensures written { out.new ≡ written_of (H.meaning hash.now) (length out.old) (digested text.now (length out.old)) }
 {
     match digest_text(hash, text, out) {
         Ok(summary) => Answer {

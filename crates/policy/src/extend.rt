@@ -54,7 +54,7 @@ fn append_two(all: &mut [u8], at: usize, first: &[u8], second: &[u8]) -> usize
 
 fn digest_of<H: Hash>(hash: &H, text: &[u8]) -> Digest
     requires { length text.now ≤ 65536 }
-    ensures { result.bytes ≡ (meaning hash.now).digest text.now }
+    ensures { result.bytes ≡ (H.meaning hash.now).digest text.now }
 {
     let mut digest = Digest::zero();
     // Within the limits hashing always succeeds.
@@ -64,14 +64,14 @@ fn digest_of<H: Hash>(hash: &H, text: &[u8]) -> Digest
 
 // The zero digest, with which every tree begins.
 pub fn zero_digest<H: Hash>(hash: &H) -> Digest
-    ensures { result.bytes ≡ zeros (meaning hash.now) }
+    ensures { result.bytes ≡ zeros (H.meaning hash.now) }
 {
     let _ = hash;
     Digest::zero()
 }
 
 fn comparison_digest<H: Hash>(hash: &H, comparison: &Comparison) -> Digest
-    ensures { result.bytes ≡ (meaning hash.now).digest (comparison_string (comparison_of comparison.now)) }
+    ensures { result.bytes ≡ (H.meaning hash.now).digest (comparison_string (comparison_of comparison.now)) }
 {
     let operand = comparison.operand;
     let mut text = [0; COMPARISON_LIMIT];
@@ -84,8 +84,8 @@ fn comparison_digest<H: Hash>(hash: &H, comparison: &Comparison) -> Digest
 // Writes what follows the command code in the string hashed.
 fn append_body<H: Hash>(hash: &H, assertion: &Assertion, all: &mut [u8], at: usize) -> usize
     requires { at + 66 ≤ length all.old }
-    ensures end { result ≡ at + length (body (meaning hash.now) (assertion_of assertion.now)) }
-    ensures front { take result all.new ≡ take at all.old ++ body (meaning hash.now) (assertion_of assertion.now) }
+    ensures end { result ≡ at + length (body (H.meaning hash.now) (assertion_of assertion.now)) }
+    ensures front { take result all.new ≡ take at all.old ++ body (H.meaning hash.now) (assertion_of assertion.now) }
     ensures within { result ≤ at + 66 }
 {
     match assertion {
@@ -111,7 +111,7 @@ fn append_body<H: Hash>(hash: &H, assertion: &Assertion, all: &mut [u8], at: usi
 // The digest extended by an assertion.
 pub fn extend_digest<H: Hash>(hash: &H, old: &Digest, assertion: &Assertion) -> Digest
     ensures password_case { PasswordHashes36 }
-    ensures value { result.bytes ≡ extended (meaning hash.now) old.now.bytes (assertion_of assertion.now) }
+    ensures value { result.bytes ≡ extended (H.meaning hash.now) old.now.bytes (assertion_of assertion.now) }
 {
     let mut text = [0; STEP_LIMIT];
     let at = append(&mut text, 0, &old.bytes);
@@ -137,7 +137,7 @@ fn append_join<H: Hash>(hash: &H, all: &mut [u8], digests: &[Digest]) -> usize
     requires some { 1 ≤ length digests.now }
     requires room { 36 + 32 * length digests.now ≤ length all.old }
     ensures end { result ≡ 36 + 32 * length digests.now }
-    ensures front { take result all.new ≡ (zeros (meaning hash.now) ++ be4 or_code) ++ flat_map digest_bytes digests.now }
+    ensures front { take result all.new ≡ (zeros (H.meaning hash.now) ++ be4 or_code) ++ flat_map digest_bytes digests.now }
 {
     let zero = zero_digest(hash);
     let at = append_two(all, 0, &zero.bytes, &POLICY_OR.to_be_bytes());
@@ -147,7 +147,7 @@ fn append_join<H: Hash>(hash: &H, all: &mut [u8], digests: &[Digest]) -> usize
 // The digest that two to eight digests are joined into, lowest first.
 pub fn join_digests<H: Hash>(hash: &H, digests: &[Digest]) -> Result<Digest, Code>
     ensures any_case { AnyOfEightHashes292 }
-    ensures value { meant digest_bytes result ≡ join_answer (meaning hash.now) (map digest_bytes digests.now) }
+    ensures value { meant digest_bytes result ≡ join_answer (H.meaning hash.now) (map digest_bytes digests.now) }
 {
     if digests.len() < FEWEST_TREES || digests.len() > MOST_TREES {
         return Err(Code::Size);

@@ -19,7 +19,7 @@ impl Report {
 
 // The lines that say what a policy text digests to, or its fault.
 pub fn digest_report<H: Hash>(hash: &H, text: &[u8]) -> Report
-    ensures { report_bytes result ≡ digest_report (meaning hash.now) text.now }
+    ensures { report_bytes result ≡ digest_report (H.meaning hash.now) text.now }
 {
     let mut digest = Digest::zero();
     let mut bytes = [0; REPORT_LIMIT];

@@ -110,7 +110,7 @@ fn append_lines(all: &mut [u8], answer: &Result<usize, Fault>) -> usize
 
 // The lines that say what a run on a fresh policy session over a state block came to.
 pub fn run_report<H: Hash + Drop>(hash: H, block: &[u8], text: &[u8]) -> StateReport
-    ensures { state_report_bytes result ≡ run_report (meaning hash) block.now text.now }
+    ensures { state_report_bytes result ≡ run_report (H.meaning hash) block.now text.now }
 {
     let mut all = [0; STATE_REPORT_LIMIT];
     let mut state = Block::blank();

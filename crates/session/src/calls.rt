@@ -23,7 +23,7 @@ impl<H: Hash, K: Kind> Session<H, K> {
     // Makes a call, if its fields are sound.
     fn take<S: ReaderState>(&mut self, state: &S, made: Result<Call, Code>) -> Result<(), Refusal>
         requires { (c : AnyCall) × (meant call_of made ≡ judged_call c) }
-        ensures called { (c : AnyCall) → meant call_of made ≡ judged_call c → Called (checked self.old.kind) (meaning self.old.hash) (observed state.now) (progress_of self.old.progress) c result (progress_of self.new.progress) }
+        ensures called { (c : AnyCall) → meant call_of made ≡ judged_call c → Called (K.checked self.old.kind) (H.meaning self.old.hash) (S.observed state.now) (progress_of self.old.progress) c result (progress_of self.new.progress) }
         ensures hash { self.new.hash ≡ self.old.hash }
         ensures kind { self.new.kind ≡ self.old.kind }
     {
@@ -43,7 +43,7 @@ impl<H: Hash, K: Kind> Session<H, K> {
         selection: Selection,
         digest: &[u8],
     ) -> Result<(), Refusal>
-        ensures called { Called (checked self.old.kind) (meaning self.old.hash) (observed state.now) (progress_of self.old.progress) (assert (pcr_of selection.bytes digest.now)) result (progress_of self.new.progress) }
+        ensures called { Called (K.checked self.old.kind) (H.meaning self.old.hash) (S.observed state.now) (progress_of self.old.progress) (assert (pcr_of selection.bytes digest.now)) result (progress_of self.new.progress) }
         ensures hash { self.new.hash ≡ self.old.hash }
         ensures kind { self.new.kind ≡ self.old.kind }
     {
@@ -59,7 +59,7 @@ impl<H: Hash, K: Kind> Session<H, K> {
         offset: u16,
         operation: u16,
     ) -> Result<(), Refusal>
-        ensures called { Called (checked self.old.kind) (meaning self.old.hash) (observed state.now) (progress_of self.old.progress) (assert (nv_of name.now (record { operand = operand.entry.now; offset = offset; operation = operation }))) result (progress_of self.new.progress) }
+        ensures called { Called (K.checked self.old.kind) (H.meaning self.old.hash) (S.observed state.now) (progress_of self.old.progress) (assert (nv_of name.now (record { operand = operand.entry.now; offset = offset; operation = operation }))) result (progress_of self.new.progress) }
         ensures hash { self.new.hash ≡ self.old.hash }
         ensures kind { self.new.kind ≡ self.old.kind }
     {
@@ -74,7 +74,7 @@ impl<H: Hash, K: Kind> Session<H, K> {
         offset: u16,
         operation: u16,
     ) -> Result<(), Refusal>
-        ensures called { Called (checked self.old.kind) (meaning self.old.hash) (observed state.now) (progress_of self.old.progress) (assert (time_of (record { operand = operand.entry.now; offset = offset; operation = operation }))) result (progress_of self.new.progress) }
+        ensures called { Called (K.checked self.old.kind) (H.meaning self.old.hash) (S.observed state.now) (progress_of self.old.progress) (assert (time_of (record { operand = operand.entry.now; offset = offset; operation = operation }))) result (progress_of self.new.progress) }
         ensures hash { self.new.hash ≡ self.old.hash }
         ensures kind { self.new.kind ≡ self.old.kind }
     {
@@ -84,7 +84,7 @@ impl<H: Hash, K: Kind> Session<H, K> {
     // The session is used at a locality of the set.
     pub fn locality<S: ReaderState>(&mut self, state: &S, set: u8) -> Result<(), Refusal>
         ensures sets { WorkedSets }
-        ensures called { Called (checked self.old.kind) (meaning self.old.hash) (observed state.now) (progress_of self.old.progress) (assert (locality_of set)) result (progress_of self.new.progress) }
+        ensures called { Called (K.checked self.old.kind) (H.meaning self.old.hash) (S.observed state.now) (progress_of self.old.progress) (assert (locality_of set)) result (progress_of self.new.progress) }
         ensures hash { self.new.hash ≡ self.old.hash }
         ensures kind { self.new.kind ≡ self.old.kind }
     {
@@ -93,7 +93,7 @@ impl<H: Hash, K: Kind> Session<H, K> {
 
     // The session is used by the command of this code.
     pub fn command<S: ReaderState>(&mut self, state: &S, code: u32) -> Result<(), Refusal>
-        ensures called { Called (checked self.old.kind) (meaning self.old.hash) (observed state.now) (progress_of self.old.progress) (assert (command_of code)) result (progress_of self.new.progress) }
+        ensures called { Called (K.checked self.old.kind) (H.meaning self.old.hash) (S.observed state.now) (progress_of self.old.progress) (assert (command_of code)) result (progress_of self.new.progress) }
         ensures hash { self.new.hash ≡ self.old.hash }
         ensures kind { self.new.kind ≡ self.old.kind }
     {
@@ -102,7 +102,7 @@ impl<H: Hash, K: Kind> Session<H, K> {
 
     // A person shows presence where the session is used.
     pub fn presence<S: ReaderState>(&mut self, state: &S) -> Result<(), Refusal>
-        ensures called { Called (checked self.old.kind) (meaning self.old.hash) (observed state.now) (progress_of self.old.progress) (assert presence_of) result (progress_of self.new.progress) }
+        ensures called { Called (K.checked self.old.kind) (H.meaning self.old.hash) (S.observed state.now) (progress_of self.old.progress) (assert presence_of) result (progress_of self.new.progress) }
         ensures hash { self.new.hash ≡ self.old.hash }
         ensures kind { self.new.kind ≡ self.old.kind }
     {
@@ -111,7 +111,7 @@ impl<H: Hash, K: Kind> Session<H, K> {
 
     // The book's password is given where the session is used.
     pub fn password<S: ReaderState>(&mut self, state: &S) -> Result<(), Refusal>
-        ensures called { Called (checked self.old.kind) (meaning self.old.hash) (observed state.now) (progress_of self.old.progress) (assert password_of) result (progress_of self.new.progress) }
+        ensures called { Called (K.checked self.old.kind) (H.meaning self.old.hash) (S.observed state.now) (progress_of self.old.progress) (assert password_of) result (progress_of self.new.progress) }
         ensures hash { self.new.hash ≡ self.old.hash }
         ensures kind { self.new.kind ≡ self.old.kind }
     {
@@ -120,7 +120,7 @@ impl<H: Hash, K: Kind> Session<H, K> {
 
     // The session's digest is one of these.
     pub fn or<S: ReaderState>(&mut self, state: &S, digests: &[&[u8]]) -> Result<(), Refusal>
-        ensures called { Called (checked self.old.kind) (meaning self.old.hash) (observed state.now) (progress_of self.old.progress) (or_of (map (λ x. x.now) digests.now)) result (progress_of self.new.progress) }
+        ensures called { Called (K.checked self.old.kind) (H.meaning self.old.hash) (S.observed state.now) (progress_of self.old.progress) (or_of (map (λ x. x.now) digests.now)) result (progress_of self.new.progress) }
         ensures hash { self.new.hash ≡ self.old.hash }
         ensures kind { self.new.kind ≡ self.old.kind }
     {

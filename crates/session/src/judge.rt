@@ -121,7 +121,7 @@ fn judge_assertion<H: Hash, S: ReaderState>(
     progress: &Progress,
     assertion: &Assertion,
 ) -> Result<(), Refusal>
-    ensures { result ≡ refused_by (first (option_map call_refusal (count_flaw (progress_of progress.now) (observed state.now).count (assertion_of assertion.now))) (unmet (meaning hash.now) (observed state.now) (assertion_of assertion.now))) tt }
+    ensures { result ≡ refused_by (first (option_map call_refusal (count_flaw (progress_of progress.now) (S.observed state.now).count (assertion_of assertion.now))) (unmet (H.meaning hash.now) (S.observed state.now) (assertion_of assertion.now))) tt }
 {
     if let Err(code) = judge_count(progress, state.change_count(), assertion) {
         return Err(Refusal::call(code));
@@ -135,7 +135,7 @@ fn judge_state<H: Hash, S: ReaderState>(
     progress: &Progress,
     call: &Call,
 ) -> Result<(), Refusal>
-    ensures { result ≡ refused_by (state_flaw (meaning hash.now) (observed state.now) (progress_of progress.now) (call_of call.now)) tt }
+    ensures { result ≡ refused_by (state_flaw (H.meaning hash.now) (S.observed state.now) (progress_of progress.now) (call_of call.now)) tt }
 {
     match call {
         Call::Assert(assertion) => judge_assertion(hash, state, progress, assertion),
@@ -152,7 +152,7 @@ pub(crate) fn judge<H: Hash, S: ReaderState>(
     call: &Call,
 ) -> Result<(), Refusal>
     requires { call_flaw digest_length (call_of call.now) ≡ None }
-    ensures { result ≡ refused_by (refusal checked (meaning hash.now) (observed state.now) (progress_of progress.now) (call_of call.now)) tt }
+    ensures { result ≡ refused_by (refusal checked (H.meaning hash.now) (S.observed state.now) (progress_of progress.now) (call_of call.now)) tt }
 {
     if let Err(code) = judge_records(progress, call) {
         return Err(Refusal::call(code));

@@ -17,7 +17,7 @@ use policy::extend::zero_digest;
 
 // The zero digest and no records.
 fn fresh_progress<H: Hash>(hash: &H) -> Progress
-    ensures { progress_of result ≡ fresh (meaning hash.now) }
+    ensures { progress_of result ≡ fresh (H.meaning hash.now) }
 {
     Progress {
         digest: zero_digest(hash),
@@ -32,8 +32,8 @@ fn fresh_progress<H: Hash>(hash: &H) -> Progress
 impl<H: Hash> Session<H, Policy> {
     // A fresh policy session: no events lead to it.
     pub fn policy(hash: H) -> Session<H, Policy>
-        ensures fresh { progress_of result.progress ≡ fresh (meaning hash) }
-        ensures history { progress_after true (meaning hash) [] ≡ progress_of result.progress }
+        ensures fresh { progress_of result.progress ≡ fresh (H.meaning hash) }
+        ensures history { progress_after true (H.meaning hash) [] ≡ progress_of result.progress }
         ensures hash { result.hash ≡ hash }
     {
         let progress = fresh_progress(&hash);
@@ -48,7 +48,7 @@ impl<H: Hash> Session<H, Policy> {
 impl<H: Hash> Session<H, Trial> {
     // A fresh trial session.
     pub fn trial(hash: H) -> Session<H, Trial>
-        ensures fresh { progress_of result.progress ≡ fresh (meaning hash) }
+        ensures fresh { progress_of result.progress ≡ fresh (H.meaning hash) }
         ensures hash { result.hash ≡ hash }
     {
         let progress = fresh_progress(&hash);
@@ -63,8 +63,8 @@ impl<H: Hash> Session<H, Trial> {
 impl<H: Hash, K: Kind> Session<H, K> {
     // Makes the session fresh again.
     pub fn restart(&mut self)
-        ensures after { progress_of self.new.progress ≡ fresh (meaning self.old.hash) }
-        ensures follows { Follows (checked self.old.kind) (meaning self.old.hash) (progress_of self.old.progress) restarted (progress_of self.new.progress) }
+        ensures after { progress_of self.new.progress ≡ fresh (H.meaning self.old.hash) }
+        ensures follows { Follows (K.checked self.old.kind) (H.meaning self.old.hash) (progress_of self.old.progress) restarted (progress_of self.new.progress) }
         ensures hash { self.new.hash ≡ self.old.hash }
         ensures kind { self.new.kind ≡ self.old.kind }
     {

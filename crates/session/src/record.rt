@@ -51,7 +51,7 @@ pub(crate) fn next_progress<H: Hash, S: ReaderState>(
     progress: &Progress,
     call: &Call,
 ) -> Progress
-    ensures { progress_of result ≡ after checked (meaning hash.now) (observed state.now) (progress_of progress.now) (call_of call.now) }
+    ensures { progress_of result ≡ after checked (H.meaning hash.now) (S.observed state.now) (progress_of progress.now) (call_of call.now) }
 {
     match call {
         Call::Assert(assertion) => {

@@ -21,8 +21,8 @@ use tree::digest::TEXT_LIMIT;
 
 impl<H: Hash, K: Kind> Session<H, K> {
     fn run_line<S: ReaderState>(&mut self, state: &S, line: &[u8]) -> Result<(), Refusal>
-        ensures answer { result ≡ refused_by (line_refusal (checked self.old.kind) (meaning self.old.hash) (observed state.now) (progress_of self.old.progress) line.now) tt }
-        ensures after { progress_of self.new.progress ≡ line_after (checked self.old.kind) (meaning self.old.hash) (observed state.now) (progress_of self.old.progress) line.now }
+        ensures answer { result ≡ refused_by (line_refusal (K.checked self.old.kind) (H.meaning self.old.hash) (S.observed state.now) (progress_of self.old.progress) line.now) tt }
+        ensures after { progress_of self.new.progress ≡ line_after (K.checked self.old.kind) (H.meaning self.old.hash) (S.observed state.now) (progress_of self.old.progress) line.now }
         ensures hash { self.new.hash ≡ self.old.hash }
         ensures kind { self.new.kind ≡ self.old.kind }
     {
@@ -37,8 +37,8 @@ impl<H: Hash, K: Kind> Session<H, K> {
 
     fn run_lines<S: ReaderState>(&mut self, state: &S, text: &[u8]) -> Result<usize, Fault>
         requires { length (text_lines text.now) ≤ line_limit }
-        ensures answer { result ≡ lines_answer (checked self.old.kind) (meaning self.old.hash) (observed state.now) 0 (text_lines text.now) (progress_of self.old.progress) }
-        ensures after { progress_of self.new.progress ≡ lines_after (checked self.old.kind) (meaning self.old.hash) (observed state.now) (text_lines text.now) (progress_of self.old.progress) }
+        ensures answer { result ≡ lines_answer (K.checked self.old.kind) (H.meaning self.old.hash) (S.observed state.now) 0 (text_lines text.now) (progress_of self.old.progress) }
+        ensures after { progress_of self.new.progress ≡ lines_after (K.checked self.old.kind) (H.meaning self.old.hash) (S.observed state.now) (text_lines text.now) (progress_of self.old.progress) }
         ensures hash { self.new.hash ≡ self.old.hash }
         ensures kind { self.new.kind ≡ self.old.kind }
     {
@@ -57,7 +57,7 @@ impl<H: Hash, K: Kind> Session<H, K> {
     // Runs a text of up to 64 calls, which may be empty: answers their number, or the first fault, before
     // which the earlier lines stand.
     pub fn run<S: ReaderState>(&mut self, state: &S, text: &[u8]) -> Result<usize, Fault>
-        ensures ran { Ran (checked self.old.kind) (meaning self.old.hash) (observed state.now) (progress_of self.old.progress) text.now result (progress_of self.new.progress) }
+        ensures ran { Ran (K.checked self.old.kind) (H.meaning self.old.hash) (S.observed state.now) (progress_of self.old.progress) text.now result (progress_of self.new.progress) }
         ensures hash { self.new.hash ≡ self.old.hash }
         ensures kind { self.new.kind ≡ self.old.kind }
     {

@@ -24,8 +24,8 @@ pub(crate) fn step<H: Hash, S: ReaderState>(
     call: &Call,
 ) -> Result<(), Refusal>
     requires { call_flaw digest_length (call_of call.now) ≡ None }
-    ensures answer { result ≡ refused_by (refusal checked (meaning hash.now) (observed state.now) (progress_of progress.old) (call_of call.now)) tt }
-    ensures after { progress_of progress.new ≡ stepped checked (meaning hash.now) (observed state.now) (progress_of progress.old) (call_of call.now) }
+    ensures answer { result ≡ refused_by (refusal checked (H.meaning hash.now) (S.observed state.now) (progress_of progress.old) (call_of call.now)) tt }
+    ensures after { progress_of progress.new ≡ stepped checked (H.meaning hash.now) (S.observed state.now) (progress_of progress.old) (call_of call.now) }
 {
     judge(hash, state, checked, progress, call)?;
     let next = next_progress(hash, state, checked, progress, call);

@@ -28,7 +28,7 @@ fn size_fits(text: &[u8], lines: usize) -> bool
 }
 
 fn fold_text<H: Hash>(hash: &H, text: &[u8]) -> Result<(Digest, Summary), Fault>
-    ensures { meant figures result ≡ figures_of (meaning hash.now) text.now (built digest_length text.now) }
+    ensures { meant figures result ≡ figures_of (H.meaning hash.now) text.now (built digest_length text.now) }
 {
     let lines = count_lines(text);
     if !size_fits(text, lines) {
@@ -48,7 +48,7 @@ fn fold_text<H: Hash>(hash: &H, text: &[u8]) -> Result<(Digest, Summary), Fault>
 
 fn write_digest<H: Hash>(hash: &H, text: &[u8], out: &mut [u8]) -> Result<Summary, Fault>
     ensures answer { result ≡ answer_of text.now (digested text.now (length out.old)) }
-    ensures written { out.new ≡ written_of (meaning hash.now) (length out.old) (digested text.now (length out.old)) }
+    ensures written { out.new ≡ written_of (H.meaning hash.now) (length out.old) (digested text.now (length out.old)) }
 {
     if out.len() != DIGEST_LENGTH {
         clear(out);
@@ -70,8 +70,8 @@ fn write_digest<H: Hash>(hash: &H, text: &[u8], out: &mut [u8]) -> Result<Summar
 // first fault and a buffer of zeros. A text is refused exactly when it writes down no sound tree.
 pub fn digest_text<H: Hash>(hash: &H, text: &[u8], out: &mut [u8]) -> Result<Summary, Fault>
     ensures answer { result ≡ answer_of text.now (digested text.now (length out.old)) }
-    ensures written { out.new ≡ written_of (meaning hash.now) (length out.old) (digested text.now (length out.old)) }
-    ensures means { Means (meaning hash.now) text.now (length out.old) result out.new }
+    ensures written { out.new ≡ written_of (H.meaning hash.now) (length out.old) (digested text.now (length out.old)) }
+    ensures means { Means (H.meaning hash.now) text.now (length out.old) result out.new }
 {
     write_digest(hash, text, out)
 }

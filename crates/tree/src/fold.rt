@@ -17,7 +17,7 @@ use text::cut::first_line;
 fn take_line<H: Hash>(hash: &H, stack: &mut Stack, line: &[u8]) -> Result<(), Refusal>
     requires room { stack.old.height < 64 }
     requires count { stack.old.branches < 64 }
-    ensures grew { Grew (line_step (digest_figure (meaning hash.now)) digest_length line.now (stack_of stack.old)) (stack_of stack.old) result (stack_of stack.new) }
+    ensures grew { Grew (line_step (digest_figure (H.meaning hash.now)) digest_length line.now (stack_of stack.old)) (stack_of stack.old) result (stack_of stack.new) }
     ensures height { stack.new.height ≤ stack.old.height + 1 }
     ensures branches { stack.new.branches ≡ stack.old.branches + begins (read_line digest_length line.now) }
 {
@@ -40,7 +40,7 @@ pub(crate) fn take_lines<H: Hash>(hash: &H, stack: &mut Stack, text: &[u8]) -> R
     requires empty { stack_of stack.old ≡ [] }
     requires height { stack.old.height ≡ 0 }
     requires branches { stack.old.branches ≡ 0 }
-    ensures { Folded (meaning hash.now) (grown tree_figure digest_length 0 (lines text.now) []) result stack.new }
+    ensures { Folded (H.meaning hash.now) (grown tree_figure digest_length 0 (lines text.now) []) result stack.new }
 {
     let mut count = 0;
     let mut rest = text;

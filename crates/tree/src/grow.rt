@@ -42,7 +42,7 @@ fn replace_top(stack: &mut Stack, taken: usize, digest: Digest)
 fn begin_tree<H: Hash>(hash: &H, stack: &mut Stack)
     requires room { stack.old.height < 64 }
     requires count { stack.old.branches < 64 }
-    ensures digests { stack_of stack.new ≡ replaced 0 (stack_of stack.old) (zeros (meaning hash.now)) }
+    ensures digests { stack_of stack.new ≡ replaced 0 (stack_of stack.old) (zeros (H.meaning hash.now)) }
     ensures height { stack.new.height ≡ stack.old.height + 1 }
     ensures branches { stack.new.branches ≡ stack.old.branches + 1 }
 {
@@ -51,7 +51,7 @@ fn begin_tree<H: Hash>(hash: &H, stack: &mut Stack)
 }
 
 fn extend_top<H: Hash>(hash: &H, stack: &mut Stack, assertion: &Assertion) -> Result<(), Refusal>
-    ensures grew { Grew (allowed (stacked (digest_figure (meaning hash.now)) (extend (assertion_of assertion.now)) (stack_of stack.old))) (stack_of stack.old) result (stack_of stack.new) }
+    ensures grew { Grew (allowed (stacked (digest_figure (H.meaning hash.now)) (extend (assertion_of assertion.now)) (stack_of stack.old))) (stack_of stack.old) result (stack_of stack.new) }
     ensures height { stack.new.height ≤ stack.old.height + 1 }
     ensures branches { stack.new.branches ≡ stack.old.branches }
 {
@@ -67,7 +67,7 @@ fn extend_top<H: Hash>(hash: &H, stack: &mut Stack, assertion: &Assertion) -> Re
 fn join_top<H: Hash>(hash: &H, stack: &mut Stack, trees: usize) -> Result<(), Refusal>
     requires few { 2 ≤ trees }
     requires many { trees ≤ 8 }
-    ensures grew { Grew (allowed (stacked (digest_figure (meaning hash.now)) (any trees) (stack_of stack.old))) (stack_of stack.old) result (stack_of stack.new) }
+    ensures grew { Grew (allowed (stacked (digest_figure (H.meaning hash.now)) (any trees) (stack_of stack.old))) (stack_of stack.old) result (stack_of stack.new) }
     ensures height { stack.new.height ≤ stack.old.height + 1 }
     ensures branches { stack.new.branches ≡ stack.old.branches }
 {
@@ -88,7 +88,7 @@ pub(crate) fn grow<H: Hash>(hash: &H, stack: &mut Stack, line: Line) -> Result<(
     requires room { stack.old.height < 64 }
     requires count { stack.old.branches < 64 }
     requires sound { line_flaw digest_length (line_of line) ≡ None }
-    ensures grew { Grew (allowed (stacked (digest_figure (meaning hash.now)) (line_of line) (stack_of stack.old))) (stack_of stack.old) result (stack_of stack.new) }
+    ensures grew { Grew (allowed (stacked (digest_figure (H.meaning hash.now)) (line_of line) (stack_of stack.old))) (stack_of stack.old) result (stack_of stack.new) }
     ensures height { stack.new.height ≤ stack.old.height + 1 }
     ensures branches { stack.new.branches ≡ stack.old.branches + starts (line_of line) }
 {
