@@ -1,6 +1,1 @@
-pub mod Ranges
-pub mod Parts
-pub mod Entries
-pub mod Numbers
 pub mod Refusals
-pub mod Meaning

@@ -6,6 +6,7 @@ ghost use Rattle.interfaces.specs.States.{pcr_count, pcr_length};
 ghost use Rattle.tables.specs.Tables.{place_under};
 ghost use Rattle.block.specs.Layout.{block_length, count_at, count_length, entries_in, entry_count, entry_in, name_in, number_in, part, pcr_in, value_in};
 ghost use Rattle.block.specs.Views.{block_bytes, observed_block};
+ghost use Rattle.block.specs.Meaning.{block_sound};
 
 use crate::block::Block;
 use crate::layout::{
@@ -93,6 +94,8 @@ impl Block<'_> {
 
 impl<'a> ReaderState for Block<'a> {
     ghost observed = { observed_block };
+
+    ghost lawful = { λ x. block_sound (block_bytes x) x.long x.sound x.small };
 
     fn pcr(&self, index: usize, out: &mut [u8]) -> Result<(), Code> {
         admit_pcr(index, out)?;

@@ -13,9 +13,9 @@ use Rattle.interfaces.proofs.Answered.{left_whole, pcr_read}
 use Rattle.text.specs.Cut.{tab}
 use Rattle.text.specs.Pairs.{pairs}
 use Rattle.block.specs.Layout.{block_length, block_snapshot, entry_at, entry_in, in_range, number_in, pcr_in, time_at}
-use Rattle.block.proofs.Entries.{value_short}
-use Rattle.block.proofs.Parts.{part-long}
-use Rattle.block.proofs.Ranges.{ranges}
+use Rattle.block.specs.Entries.{value_short}
+use Rattle.block.specs.Parts.{part-long}
+use Rattle.block.specs.Ranges.{ranges}
 use Rattle.report.specs.Reports.{labelled, shown_fault}
 use Rattle.report.specs.StateReports.{shown_block, shown_pcr, shown_state}
 

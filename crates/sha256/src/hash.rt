@@ -6,7 +6,7 @@ ghost use Rattle.sha256.specs.Sha256.{compress, pad, sha256_hashing};
 ghost use Rattle.std.proofs.Common.{lit<};
 ghost use Rattle.sha256.specs.Digests.{sized, bytes};
 
-use crate::blocks::add_blocks;
+use crate::absorb::add_blocks;
 use crate::constants::{BLOCK, State, initial};
 use crate::message::{pad_rest, write_digest};
 use interfaces::code::Code;

@@ -1,7 +1,7 @@
 // SHA-256 after FIPS 180-4, as an implementation of the hash interface.
 #![tactic(auto)]
 
-mod blocks;
+mod absorb;
 mod constants;
 mod functions;
 mod hash;

@@ -1,6 +1,6 @@
 use Rattle.std.proofs.Common.{sym, ◌∙◌, arith}
 use Rattle.std.proofs.lemmas.Bool.{leb-false}
-use Rattle.block.proofs.Ranges.{lengths_fit_lem, lengths_miss}
+use Rattle.block.specs.Ranges.{lengths_fit_lem, lengths_miss}
 use Rattle.block.proofs.judging.lengths_fit.Goals as goal
 
 pub returns-then-not-length_fits : goal.returns-then-not-length_fits

@@ -4,7 +4,7 @@ use Rattle.std.proofs.lemmas.List.{take_all}
 use Rattle.tables.proofs.Laws.{Absent, absent_more, absent_found, absent_place, first_place}
 use Rattle.block.specs.Layout.{entries_in, entry_in}
 use Rattle.block.specs.Views.{block_bytes}
-use Rattle.block.proofs.Entries.{entries_length, entries_at_lem}
+use Rattle.block.specs.Entries.{entries_length, entries_at_lem}
 use Rattle.block.proofs.block.Block.place.Goals as goal
 
 pub returns-then-same : goal.returns-then-same

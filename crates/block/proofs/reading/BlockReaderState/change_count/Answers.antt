@@ -1,8 +1,8 @@
 use Rattle.std.proofs.Common.{length, ap, ◌∙◌, arith}
 use Rattle.block.specs.Layout.{count_at, count_length}
 use Rattle.block.specs.Views.{block_bytes}
-use Rattle.block.proofs.Numbers.{eight_bytes}
-use Rattle.block.proofs.Parts.{part-long}
+use Rattle.block.specs.Numbers.{eight_bytes}
+use Rattle.block.specs.Parts.{part-long}
 use Rattle.block.proofs.reading.BlockReaderState.change_count.Goals as goal
 
 pub returns : goal.returns

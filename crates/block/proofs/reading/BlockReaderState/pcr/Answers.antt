@@ -15,7 +15,7 @@ returns-in_err-admit_pcr c =
     let flaw = pcr_flaw c.args.index room in
     let value = get_or (observed_block c.args.self.now).pcrs c.args.index [] in
     let refused = c.in_err-admit_pcr.ensures.answer in
-    let p = err_from_is_err_and c.from-residual.result c.from-residual.ensures.1 in
+    let p = err_from_is_err_and c.from_residual.result c.from_residual.ensures.1 in
     record {
       answer = p.1 ∙ ap Err p.2 ∙ refused_answer flaw _ value refused;
       written = c.admit_pcr.ensures.after ∙ refused_left flaw _ c.args.out.now value room refused;

@@ -5,8 +5,8 @@ use Rattle.interfaces.specs.States.{held_value, read_stored, stored_flaw, unless
 use Rattle.interfaces.proofs.Answered.{fitting_ok}
 use Rattle.block.specs.Layout.{value_in}
 use Rattle.block.specs.Views.{block_bytes, observed_block}
-use Rattle.block.proofs.Entries.{no_value, place_within, placed_value, value_short}
-use Rattle.block.proofs.Ranges.{ranges}
+use Rattle.block.specs.Entries.{no_value, place_within, placed_value, value_short}
+use Rattle.block.specs.Ranges.{ranges}
 use Rattle.block.proofs.Refusals.{flawless}
 use Rattle.block.proofs.reading.BlockReaderState.stored_value.Goals as goal
 

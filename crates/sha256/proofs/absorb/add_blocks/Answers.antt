@@ -1,7 +1,7 @@
 use Rattle.std.proofs.Common.{◌≡◌, suc, ◌+◌, ◌-◌, ◌*◌, sym, arith}
 use Rattle.blocks.proofs.Absorbed.{absorb-none, absorb-more}
 use Rattle.sha256.specs.Sha256.{compress}
-use Rattle.sha256.proofs.blocks.add_blocks.Goals as goal
+use Rattle.sha256.proofs.absorb.add_blocks.Goals as goal
 
 pub loop-i-init : goal.loop-i-init
 loop-i-init c = sym (absorb-none compress 64 c.args.bytes.now c.args.start)

@@ -11,10 +11,10 @@ use Rattle.tables.specs.Tables.{value_under}
 use Rattle.tables.proofs.Bytes.{Small, small_bytes}
 use Rattle.tables.proofs.Laws.{value_holds}
 use Rattle.block.specs.Layout.{block_length, block_snapshot, count_at, count_length, entries_in, entry_at, in_range, length_in, name_in, number_in, part, pcr_in, time_at, value_in}
-use Rattle.block.proofs.Entries.{entries_length, entries_at_lem, value_short}
-use Rattle.block.proofs.Numbers.{eight_fit}
-use Rattle.block.proofs.Parts.{part-long, part_small}
-use Rattle.block.proofs.Ranges.{ranges}
+use Rattle.block.specs.Entries.{entries_length, entries_at_lem, value_short}
+use Rattle.block.specs.Numbers.{eight_fit}
+use Rattle.block.specs.Parts.{part-long, part_small}
+use Rattle.block.specs.Ranges.{ranges}
 
 all_pcrs : (P : List ℕ → Type 0) (bs : List ℕ) → ((i : ℕ) → i < pcr_count → P (pcr_in bs i)) → All P (map (pcr_in bs) (range_with_len 0 pcr_count))
 all_pcrs P bs each = All-from_get_or P (map (pcr_in bs) (range_with_len 0 pcr_count)) [] (λ i h. let l : i < pcr_count = omega (arith, length-map-range_with_len (pcr_in bs) 0 pcr_count) in subst P (sym (get_or-map-range_with_len (pcr_in bs) 0 pcr_count i i [] l (omega arith))) (each i l))

@@ -1,5 +1,5 @@
 use Rattle.sha256.specs.Sha256.{compress}
-use Rattle.sha256.proofs.blocks.add_block.Goals as goal
+use Rattle.sha256.proofs.absorb.add_block.Goals as goal
 
 pub returns : goal.returns
 unfolding compress
