@@ -8,6 +8,6 @@ returns g c =
     let h = g.H.Hash.meaning c.args.hash.now in
     let text = take c.append_picked-len.result c.append_picked-len.new.all in
     let short : length text ≤ hash_limit = search rules in
-    let room : length c.zero_digest.result.bytes ≡ digest_length = ap length c.zero_digest.ensures in
+    let room : length c.zero-digest.result.bytes ≡ digest_length = ap length c.zero-digest.ensures in
     let t = hash_left h text _ short room in
     cc

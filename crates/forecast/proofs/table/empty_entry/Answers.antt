@@ -4,4 +4,4 @@ use Rattle.tables.proofs.Bytes.{zeros-small}
 use Rattle.forecast.proofs.table.empty_entry.Goals as goal
 
 pub invariant_of-result : goal.invariant_of-result
-invariant_of-result c = (refl, (zeros-small pcr_length, tt))
+invariant_of-result c = record { long = refl; small = zeros-small pcr_length }

@@ -10,7 +10,7 @@ invariant_of-result c =
     let t = c.put-2.new.out in
     let short : length t ≤ 65536 = search rules in
     let is = c.hash.ensures.written ∙ hashed t short in
-    (search rules, (subst Small (sym is) (bytes_small (sha256 t) (bytes t)), tt))
+    record { long = search rules; small = subst Small (sym is) (bytes_small (sha256 t) (bytes t)) }
 
 pub returns : goal.returns
 returns c =

@@ -4,4 +4,4 @@ use Rattle.tables.proofs.Bytes.{zeros-small}
 use Rattle.state.proofs.setting.zero_time.Goals as goal
 
 pub invariant_of-result : goal.invariant_of-result
-invariant_of-result c = (refl, (zeros-small time_length, tt))
+invariant_of-result c = record { long = refl; small = zeros-small time_length }

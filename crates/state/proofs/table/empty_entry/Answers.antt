@@ -3,4 +3,4 @@ use Rattle.tables.proofs.Bytes.{zeros-small}
 use Rattle.state.proofs.table.empty_entry.Goals as goal
 
 pub invariant_of-result : goal.invariant_of-result
-invariant_of-result c = (refl, (zeros-small 64, (lit≤ tt, tt)))
+invariant_of-result c = record { long = refl; small = zeros-small 64; within = lit≤ tt }

@@ -24,8 +24,8 @@ returns-in_default c =
 pub listed : goal.listed
 listed c = let h = c.in-Some.ensures.within in search rules
 
-pub offset-bounds-self-place : goal.offset-bounds-self-place
-offset-bounds-self-place c = let h = c.in-Some.ensures.within in search rules
+pub offset_bounds-self-place : goal.offset_bounds-self-place
+offset_bounds-self-place c = let h = c.in-Some.ensures.within in search rules
 
 pub bounds-self-place : goal.bounds-self-place
 bounds-self-place c = let h = c.in-Some.ensures.within in search rules

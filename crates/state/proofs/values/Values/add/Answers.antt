@@ -24,7 +24,11 @@ pub invariant_of-self : goal.invariant_of-self
 invariant_of-self c =
     let v = c.args.self.now in
     let e = c.args.entry in
-    (length-set v.entries v.used e ∙ v.all, (omega (arith, c.if-used-ge-VALUE_COUNT.false), (ap (distinct bytes_eq) (put_behind entry_of v.used v.entries bytes_eq e c.requires (omega (arith, v.all, c.if-used-ge-VALUE_COUNT.false))) ∙ put_once v e, tt)))
+    record {
+      all = length-set v.entries v.used e ∙ v.all;
+      within = omega (arith, c.if-used-ge-VALUE_COUNT.false);
+      once = ap (distinct bytes_eq) (put_behind entry_of v.used v.entries bytes_eq e c.requires (omega (arith, v.all, c.if-used-ge-VALUE_COUNT.false))) ∙ put_once v e;
+    }
 
 pub returns : goal.returns
 returns c =

@@ -15,8 +15,8 @@ add-requires c = sym c.place-found.ensures.value ∙ c.in_default.is
 pub listed : goal.listed
 listed c = let h = c.in-Some.ensures.within in search rules
 
-pub offset-bounds-self-place : goal.offset-bounds-self-place
-offset-bounds-self-place c = let h = c.in-Some.ensures.within in search rules
+pub offset_bounds-self-place : goal.offset_bounds-self-place
+offset_bounds-self-place c = let h = c.in-Some.ensures.within in search rules
 
 pub bounds-self-place : goal.bounds-self-place
 bounds-self-place c = let h = c.in-Some.ensures.within in search rules
@@ -26,7 +26,11 @@ invariant_of-self c =
     let v = c.args.self.now in
     let e = c.args.entry in
     let at : place_under bytes_eq (held v) e.name.bytes ≡ Some c.in-Some.place = sym c.place-found.ensures.value ∙ c.in-Some.is in
-    (length-set v.entries c.in-Some.place e ∙ v.all, (v.within, (ap (distinct bytes_eq) (put_over entry_of v.used v.entries bytes_eq e c.in-Some.place at c.in-Some.ensures.within) ∙ put_once v e, tt)))
+    record {
+      all = length-set v.entries c.in-Some.place e ∙ v.all;
+      within = v.within;
+      once = ap (distinct bytes_eq) (put_over entry_of v.used v.entries bytes_eq e c.in-Some.place at c.in-Some.ensures.within) ∙ put_once v e;
+    }
 
 pub returns : goal.returns
 returns c =
