@@ -1,7 +1,7 @@
 // Policy and trial sessions: every call, restart, end, and runs of texts.
 #![tactic(auto)]
 
-mod calls;
+mod calling;
 mod judge;
 pub mod kind;
 mod life;

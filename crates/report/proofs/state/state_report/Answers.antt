@@ -10,8 +10,8 @@ use Rattle.report.proofs.state.state_report.Goals.{in-Ok, in-Err}
 pub invariant_of-result : goal.invariant_of-result
 invariant_of-result c =
     elim c.match-load.branch [
-      | in-Ok w ↦ (omega (arith, w.len-is, w.append_state-len.ensures.short), tt)
-      | in-Err w ↦ (omega (arith, w.len-is, w.append_fault-len.ensures.short), tt)
+      | in-Ok w ↦ record { within = omega (arith, w.len-is, w.append_state-len.ensures.short) }
+      | in-Err w ↦ record { within = omega (arith, w.len-is, w.append_fault-len.ensures.short) }
     ]
 
 pub returns : goal.returns
