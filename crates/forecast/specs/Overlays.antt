@@ -1,13 +1,12 @@
 -- Laws of PCRs with planned ones over them.
-use Rattle.std.specs.Prelude.{◌≡◌, ℕ, zero, suc, ◌+◌, ◌<◌, ◌≤◌, true, List, [], ◌∷◌, map, length, get_or, take, Some, None, Option, ◌≢◌, nat_eq, slice_index_or, slice_set, refl}
-use Rattle.std.proofs.Common.{arith, sym, ap, subst, ◌∙◌}
+use Rattle.std.specs.Prelude.{◌≡◌, ℕ, zero, suc, ◌+◌, ◌<◌, List, [], ◌∷◌, map, length, get_or, take, Some, None, Option, ◌≢◌, nat_eq, slice_index_or, slice_set, refl}
+use Rattle.std.proofs.Common.{arith, ap, ◌∙◌}
 use Rattle.std.specs.Option.{unwrap_or}
 use Rattle.std.specs.List.{AllByRecursion as All}
 use Rattle.std.proofs.lemmas.Bool.{cond-true, cond-false, eq-eqb, eqb-true, ne_eqb, lt-ltb}
 use Rattle.std.proofs.lemmas.Bool.Decides.{Decides-eqb}
 use Rattle.interfaces.specs.declared.code.Code.{Code}
 use Rattle.interfaces.specs.declared.code.Code.TheVariants.{Size, Value}
-use Rattle.interfaces.specs.declared.pcr.Pcr.{Pcr}
 use Rattle.interfaces.specs.Checks.{Bytes, first, settled}
 use Rattle.interfaces.specs.States.{Snapshot, pcr_count, pcr_length}
 use Rattle.tables.specs.Tables.{value_under, put_under, full_flaw}

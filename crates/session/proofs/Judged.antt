@@ -1,5 +1,5 @@
 -- Laws of the order of checks, and of joining an `or`.
-use Rattle.std.proofs.Common.{◌≡◌, ℕ, ◌≤◌, Bool, true, cond, List, length, is_ok, Some, None, Ok, Err, Option, Result, sym, refl, ap, ◌∙◌, arith}
+use Rattle.std.proofs.Common.{◌≡◌, ℕ, ◌≤◌, Bool, true, cond, List, length, is_ok, Some, None, Ok, Err, Option, Result, refl, ap, ◌∙◌, arith}
 use Rattle.std.specs.Option.{option_map}
 use Rattle.interfaces.specs.declared.code.Code.{Code}
 use Rattle.interfaces.specs.declared.digest.Digest.{Digest}

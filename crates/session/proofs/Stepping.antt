@@ -1,5 +1,5 @@
 -- Laws of calls: what a refusal by the fields leaves, and that a history goes on.
-use Rattle.std.proofs.Common.{◌≡◌, ℕ, Bool, cond, not, eqb, Some, None, Ok, Err, Option, Result, sym, refl, ap, ◌∙◌, arith}
+use Rattle.std.proofs.Common.{◌≡◌, ℕ, Bool, cond, not, eqb, Some, None, Err, Option, Result, sym, refl, ap, ◌∙◌, arith}
 use Rattle.std.specs.Option.{option_map}
 use Rattle.interfaces.specs.declared.code.Code.{Code}
 use Rattle.interfaces.specs.declared.code.Code.TheVariants.{Range}
@@ -12,7 +12,7 @@ use Rattle.policy.specs.Reading.{refused_by}
 use Rattle.calls.specs.Calls.{Call, call_flaw, judged_call}
 use Rattle.session.specs.Cases.{WorkedSets}
 use Rattle.session.specs.Events.{Called}
-use Rattle.session.specs.Steps.{Progress, assertion_record_flaw, common_set, record_flaw, refusal, state_flaw, stepped, stepped_by, after}
+use Rattle.session.specs.Steps.{Progress, common_set, record_flaw, refusal, state_flaw, stepped, stepped_by, after}
 
 module _ (checked : Bool) (h : Hashing) (s : Snapshot) (p : Progress) (c : Call) where
   pub called_so : (r : Result (Unit {0}) Refusal) (later : Progress) → r ≡ refused_by (refusal checked h s p c) tt → later ≡ stepped checked h s p c → Called checked h s p c r later

@@ -1,5 +1,5 @@
 -- Worked cases, of the same definitions.
-use Rattle.std.specs.Prelude.{◌≡◌, ℕ, Some, None}
+use Rattle.std.specs.Prelude.{◌≡◌, Some}
 use Rattle.interfaces.specs.declared.code.Code.TheVariants.{Range}
 use Rattle.policy.specs.Assertions.{locality}
 use Rattle.session.specs.Steps.{Progress, assertion_record_flaw, common_set}

@@ -1,5 +1,4 @@
 -- What a session's value means.
-use Rattle.std.specs.Prelude.{Option}
 use Rattle.session.specs.declared.progress.Progress as code
 use Rattle.session.specs.Steps.{Progress}
 

@@ -1,6 +1,6 @@
 -- The reader's own state keeps the bounds of a reader state.
-use Rattle.std.specs.Prelude.{◌≡◌, ℕ, zero, suc, ◌<◌, ◌≤◌, true, List, [], ◌∷◌, map, length, take, Some, slice_index_or}
-use Rattle.std.proofs.Common.{arith, subst, sym, ap, ◌∙◌}
+use Rattle.std.specs.Prelude.{◌≡◌, ℕ, zero, suc, ◌<◌, ◌≤◌, List, [], ◌∷◌, map, length, take, Some, slice_index_or}
+use Rattle.std.proofs.Common.{arith, ◌∙◌}
 use Rattle.std.specs.List.{AllByRecursion as All}
 use Rattle.std.specs.Str.{bytes_eq}
 use Rattle.std.proofs.ByRecursion.{All-take}
@@ -14,10 +14,9 @@ use Rattle.tables.specs.Tables.{value_under}
 use Rattle.tables.proofs.Bytes.{small_bytes}
 use Rattle.tables.proofs.Laws.{value_holds}
 use Rattle.state.specs.declared.entry.Entry.{Entry}
-use Rattle.state.specs.declared.entry.StoredValue.{StoredValue}
 use Rattle.state.specs.declared.own.Own.{Own}
 use Rattle.state.specs.declared.values.Values.{Values}
-use Rattle.state.specs.Entries.{value_bytes, entry_of, held_among}
+use Rattle.state.specs.Entries.{entry_of}
 use Rattle.state.specs.Views.{held, own_snapshot}
 
 pcrs_long : (ps : List Pcr) → All (λ p. length p ≡ pcr_length) (map pcr_bytes ps)

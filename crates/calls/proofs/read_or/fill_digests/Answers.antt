@@ -1,4 +1,4 @@
-use Rattle.std.proofs.Common.{◌≡◌, ◌+◌, ◌<◌, ◌≤◌, true, [], ◌∷◌, ◌++◌, map, length, take, set, Some, None, sym, ap, ◌∙◌, subst, arith, rules}
+use Rattle.std.proofs.Common.{◌≡◌, ◌+◌, [], ◌∷◌, ◌++◌, map, take, set, Some, None, sym, ap, ◌∙◌, subst, arith}
 use Rattle.std.specs.Option.{option_map}
 use Rattle.std.proofs.lemmas.List.{length-set, map_push, take_more_set}
 use Rattle.interfaces.specs.declared.digest.Digest.{Digest}
@@ -8,7 +8,6 @@ use Rattle.text.specs.Pairs.{of_length, unpaired}
 use Rattle.policy.specs.Views.{digest_bytes}
 use Rattle.policy.proofs.ReadsFields.{length_from}
 use Rattle.calls.specs.Calls.{all_sized}
-use Rattle.calls.specs.Limits.{most_digests}
 use Rattle.calls.proofs.Fields.{Before, before_more, filled_length, no_digest, other_length, sized-more, too_many}
 use Rattle.calls.proofs.read_or.fill_digests.Goals as goal
 

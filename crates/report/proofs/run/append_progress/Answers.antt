@@ -1,4 +1,4 @@
-use Rattle.std.proofs.Common.{◌+◌, ◌≤◌, [], ◌∷◌, ◌++◌, take, codes, decimal, ap, ◌∙◌, rules}
+use Rattle.std.proofs.Common.{[], ◌∷◌, ◌++◌, take, codes, decimal, ap, ◌∙◌, rules}
 use Rattle.text.specs.Pairs.{pairs}
 use Rattle.policy.specs.Lines.{be4}
 use Rattle.report.specs.Reports.{labelled}

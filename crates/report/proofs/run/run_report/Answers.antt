@@ -1,4 +1,4 @@
-use Rattle.std.proofs.Common.{◌≡◌, true, ◌++◌, None, sym, ap, ◌∙◌, subst}
+use Rattle.std.proofs.Common.{◌≡◌, true, ◌++◌, None, sym, ap, ◌∙◌}
 use Rattle.interfaces.specs.Checks.{settled}
 use Rattle.block.specs.Layout.{block_flaw, block_snapshot}
 use Rattle.block.specs.Views.{block_bytes}

@@ -1,4 +1,4 @@
-use Rattle.std.proofs.Common.{◌≡◌, ◌+◌, ◌≤◌, length, replicate, sym, ap, ◌∙◌, subst, arith, rules}
+use Rattle.std.proofs.Common.{◌≡◌, ◌+◌, ◌≤◌, length, replicate, sym, ap, ◌∙◌, subst, rules}
 use Rattle.sha256.specs.Sha256.{sha256}
 use Rattle.sha256.specs.Digests.{bytes}
 use Rattle.tables.proofs.Bytes.{Small, bytes_small}

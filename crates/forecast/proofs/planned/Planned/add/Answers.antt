@@ -1,5 +1,4 @@
-use Rattle.std.proofs.Common.{◌≡◌, eqb, sym, ap, ◌∙◌, arith, rules}
-use Rattle.std.proofs.lemmas.List.{length-set}
+use Rattle.std.proofs.Common.{eqb, sym, ap, ◌∙◌, arith}
 use Rattle.interfaces.specs.Checks.{refused_with, settled}
 use Rattle.interfaces.specs.Views.{pcr_bytes}
 use Rattle.tables.specs.Tables.{put_under}

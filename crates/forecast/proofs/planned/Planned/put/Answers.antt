@@ -1,4 +1,4 @@
-use Rattle.std.proofs.Common.{◌≡◌, eqb, Some, sym, ap, ◌∙◌, rules}
+use Rattle.std.proofs.Common.{◌≡◌, eqb, Some, sym, ap, ◌∙◌}
 use Rattle.interfaces.specs.Checks.{refused_with, settled}
 use Rattle.interfaces.specs.Views.{pcr_bytes}
 use Rattle.tables.specs.Tables.{place_under, put_under}

@@ -1,7 +1,4 @@
 use Rattle.std.proofs.Common.{◌∙◌}
-use Rattle.forecast.specs.Views.{plans_of}
-use Rattle.state.specs.Views.{own_snapshot}
-use Rattle.reader.specs.Plain.{plain}
 use Rattle.reader.proofs.reader.Reader.new.Goals as goal
 
 pub returns : goal.returns

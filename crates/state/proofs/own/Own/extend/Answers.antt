@@ -1,4 +1,4 @@
-use Rattle.std.proofs.Common.{◌≡◌, ◌+◌, ◌<◌, [], ◌++◌, map, length, get_or, set, sym, ap, ◌∙◌, arith, rules}
+use Rattle.std.proofs.Common.{◌≡◌, ◌+◌, ◌<◌, [], ◌++◌, length, get_or, set, sym, ap, ◌∙◌, rules}
 use Rattle.std.proofs.lemmas.List.{get_or-map, map-set}
 use Rattle.interfaces.specs.Checks.{refused_with, settled}
 use Rattle.interfaces.specs.States.{pcr_count, pcr_length}

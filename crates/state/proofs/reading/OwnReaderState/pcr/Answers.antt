@@ -3,7 +3,6 @@ use Rattle.std.proofs.lemmas.List.{get_or-map}
 use Rattle.interfaces.specs.Checks.{done, left_in}
 use Rattle.interfaces.proofs.Answered.{left_whole, pcr_read}
 use Rattle.state.specs.Views.{own_snapshot}
-use Rattle.interfaces.specs.Views.{pcr_bytes}
 use Rattle.state.proofs.reading.OwnReaderState.pcr.Goals as goal
 
 pub returns : goal.returns

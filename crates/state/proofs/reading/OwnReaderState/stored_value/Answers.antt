@@ -1,9 +1,9 @@
-use Rattle.std.proofs.Common.{◌≡◌, ◌<◌, ◌≤◌, length, get_or, Some, None, Ok, sym, ap, ◌∙◌, subst, arith, rules}
+use Rattle.std.proofs.Common.{◌≡◌, ◌≤◌, length, get_or, Some, sym, ap, ◌∙◌, arith, rules}
 use Rattle.std.specs.Str.{bytes_eq}
 use Rattle.interfaces.specs.Checks.{counted, fitting, left_in}
-use Rattle.interfaces.specs.States.{held_value, value_limit}
+use Rattle.interfaces.specs.States.{held_value}
 use Rattle.interfaces.proofs.Answered.{fitting_ok, stored_read}
-use Rattle.tables.specs.Tables.{value_under, place_under}
+use Rattle.tables.specs.Tables.{value_under}
 use Rattle.tables.proofs.Laws.{place_none, place_some}
 use Rattle.state.specs.Entries.{entry_of, value_bytes}
 use Rattle.state.specs.Views.{held, own_snapshot}
