@@ -1,6 +1,6 @@
 -- What a judged block means is a sound state.
 use Rattle.std.proofs.Common.{◌≡◌, ℕ, ◌<◌, ◌≤◌, true, List, [], map, length, Some, sym, subst, arith}
-use Rattle.std.specs.List.{range_with_len, AllByRecursion as All}
+use Rattle.std.specs.List.{range_with_len, AllByRecursion}
 use Rattle.std.specs.Str.{bytes_eq}
 use Rattle.std.proofs.lemmas.List.FromFn.{length-map-range_with_len, get_or-map-range_with_len}
 use Rattle.std.proofs.ByRecursion.{All-from_get_or}
@@ -16,7 +16,7 @@ use Rattle.block.specs.Numbers.{eight_fit}
 use Rattle.block.specs.Parts.{part-long, part_small}
 use Rattle.block.specs.Ranges.{ranges}
 
-all_pcrs : (P : List ℕ → Type 0) (bs : List ℕ) → ((i : ℕ) → i < pcr_count → P (pcr_in bs i)) → All P (map (pcr_in bs) (range_with_len 0 pcr_count))
+all_pcrs : (P : List ℕ → Type 0) (bs : List ℕ) → ((i : ℕ) → i < pcr_count → P (pcr_in bs i)) → AllByRecursion P (map (pcr_in bs) (range_with_len 0 pcr_count))
 all_pcrs P bs each = All-from_get_or P (map (pcr_in bs) (range_with_len 0 pcr_count)) [] (λ i h. let l : i < pcr_count = omega (arith, length-map-range_with_len (pcr_in bs) 0 pcr_count) in subst P (sym (get_or-map-range_with_len (pcr_in bs) 0 pcr_count i i [] l (omega arith))) (each i l))
 
 -- what holds of every used entry holds of what is found under a Name

@@ -1,7 +1,7 @@
 -- Reading a line of a run inverts writing it.
 use Rattle.std.proofs.Common.{◌≡◌, ℕ, ◌<◌, List, [], ◌∷◌, ◌++◌, map, Some, None, codes, Option, sym, refl, ap, ◌∙◌, subst, inl, inr, arith}
 use Rattle.std.specs.Option.{option_map}
-use Rattle.std.specs.List.{flat_map, AllByRecursion as All}
+use Rattle.std.specs.List.{flat_map, AllByRecursion}
 use Rattle.interfaces.specs.declared.fault.Refusal.{Refusal}
 use Rattle.interfaces.specs.Checks.{Bytes}
 use Rattle.text.specs.Cut.{tab, fields}
@@ -38,15 +38,15 @@ module _ (b : ℕ) (low : b < 48) where
   call_word_without (assert a) = word_without b low a
   call_word_without (or ds) = omega arith
 
-  digests_without : (ds : List (List ℕ)) → All (Without b) (map pairs ds)
+  digests_without : (ds : List (List ℕ)) → AllByRecursion (Without b) (map pairs ds)
   digests_without [] = tt
   digests_without (d ∷ ds) = (pairs_without b low d, digests_without ds)
 
-  call_fields_without : (c : Call) → HoldsCall c → All (Without b) (call_fields c)
+  call_fields_without : (c : Call) → HoldsCall c → AllByRecursion (Without b) (call_fields c)
   call_fields_without (assert a) h = fields_without b low a h
   call_fields_without (or ds) h = digests_without ds
 
-digests_read : (ds : List (List ℕ)) → All Bytes ds → unpaired_all (map pairs ds) ≡ Some ds
+digests_read : (ds : List (List ℕ)) → AllByRecursion Bytes ds → unpaired_all (map pairs ds) ≡ Some ds
 digests_read [] h = refl
 digests_read (d ∷ ds) h = good_field (pairs d) (map pairs ds) d (unpaired-pairs d h.0) ∙ ap (option_map (λ l. d ∷ l)) (digests_read ds h.1)
 
@@ -64,14 +64,14 @@ word_read (or ds) h = ap (option_map or) (digests_read ds h)
 pub parse-shown : (c : Call) → HoldsCall c → parse_call (shown_call c) ≡ Some c
 parse-shown c h = ap parse_call (call_tabs c) ∙ ap parse_call_fields (fields_tabs (call_word c) (call_fields c) (call_word_without tab (omega arith) c) (call_fields_without tab (omega arith) c h)) ∙ word_read c h
 
-digests_from : (fs ds : List (List ℕ)) → unpaired_all fs ≡ Some ds → (map pairs ds ≡ fs) × All Bytes ds
-digests_from [] ds e = let none : [] ≡ ds = some_from [] ds e in subst (λ l. (map pairs l ≡ []) × All Bytes l) none (refl, tt)
+digests_from : (fs ds : List (List ℕ)) → unpaired_all fs ≡ Some ds → (map pairs ds ≡ fs) × AllByRecursion Bytes ds
+digests_from [] ds e = let none : [] ≡ ds = some_from [] ds e in subst (λ l. (map pairs l ≡ []) × AllByRecursion Bytes l) none (refl, tt)
 digests_from (f ∷ fs) ds e =
     let p = thence_from (unpaired f) _ ds e in
     let q = thence_from (unpaired_all fs) _ ds p.2 in
     let first = pairs-unpaired f p.0 p.1 in
     let more = digests_from fs q.0 q.1 in
-    subst (λ l. (map pairs l ≡ f ∷ fs) × All Bytes l) (some_from _ ds q.2) ((λ i. first.0 i ∷ more.0 i), (first.1, more.1))
+    subst (λ l. (map pairs l ≡ f ∷ fs) × AllByRecursion Bytes l) (some_from _ ds q.2) ((λ i. first.0 i ∷ more.0 i), (first.1, more.1))
 
 module _ (w : List ℕ) (fs : List (List ℕ)) (c : Call) where
   or_from : w ≡ codes "or" → option_map or (unpaired_all fs) ≡ Some c → IsCall (w ++ tabs fs) c

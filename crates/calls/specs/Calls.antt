@@ -1,7 +1,7 @@
 -- Policy calls: an assertion, or an `or` that allows each of several digests; and how each is written
 -- as a line of a run.
 use Rattle.std.specs.Prelude.{◌≡◌, ℕ, Bool, true, ◌&&◌, List, [], ◌∷◌, ◌++◌, length, codes, Option, Result, ◌==◌, nat_le}
-use Rattle.std.specs.List.{flat_map, AllByRecursion as All}
+use Rattle.std.specs.List.{flat_map, AllByRecursion}
 use Rattle.interfaces.specs.declared.code.Code.{Code}
 use Rattle.interfaces.specs.declared.code.Code.TheVariants.{Size}
 use Rattle.interfaces.specs.Checks.{Bytes, refused_with, unless}
@@ -38,7 +38,7 @@ shown_call (or ds) = codes "or" ++ flat_map (λ d. tabbed (pairs d)) ds
 -- The fields hold what they can hold at all.
 abbrev pub HoldsCall : Call → Type 0
 HoldsCall (assert a) = HoldsAssertion a
-HoldsCall (or ds) = All Bytes ds
+HoldsCall (or ds) = AllByRecursion Bytes ds
 
 -- s is the call c as written.
 pub record IsCall (s : List ℕ) (c : Call) : Type 0 where

@@ -2,7 +2,7 @@
 use Rattle.std.specs.Prelude.{◌≡◌, ℕ, zero, suc, ◌+◌, ◌<◌, List, [], ◌∷◌, map, length, get_or, take, Some, None, Option, ◌≢◌, nat_eq, slice_index_or, slice_set, refl}
 use Rattle.std.proofs.Common.{arith, ap, ◌∙◌}
 use Rattle.std.specs.Option.{unwrap_or}
-use Rattle.std.specs.List.{AllByRecursion as All}
+use Rattle.std.specs.List.{AllByRecursion}
 use Rattle.std.proofs.lemmas.Bool.{cond-true, cond-false, eq-eqb, eqb-true, ne_eqb, lt-ltb}
 use Rattle.std.proofs.lemmas.Bool.Decides.{Decides-eqb}
 use Rattle.interfaces.specs.declared.code.Code.{Code}
@@ -32,7 +32,7 @@ overlaid_at plans n k [] i d e h = absurd (omega arith)
 overlaid_at plans n k (p ∷ ps) zero d e h = let at : n ≡ k = omega arith in ap (λ m. unwrap_or (value_under nat_eq plans m) p) at
 overlaid_at plans n k (p ∷ ps) (suc i) d e h = overlaid_at plans (suc n) k ps i d (omega arith) (omega arith)
 
-pub overlaid_all : (P : List ℕ → Type 0) (plans : Plans) → ((k : ℕ) (v : List ℕ) → value_under nat_eq plans k ≡ Some v → P v) → (n : ℕ) (ps : List (List ℕ)) → All P ps → All P (overlaid plans n ps)
+pub overlaid_all : (P : List ℕ → Type 0) (plans : Plans) → ((k : ℕ) (v : List ℕ) → value_under nat_eq plans k ≡ Some v → P v) → (n : ℕ) (ps : List (List ℕ)) → AllByRecursion P ps → AllByRecursion P (overlaid plans n ps)
 overlaid_all P plans each n [] h = tt
 overlaid_all P plans each n (p ∷ ps) h = (go (value_under nat_eq plans n) refl, overlaid_all P plans each (suc n) ps h.1)
   where

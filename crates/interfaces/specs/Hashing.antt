@@ -1,6 +1,6 @@
 -- What a hash means, and what hashing answers and writes.
 use Rattle.std.specs.Prelude.{◌≡◌, ℕ, ◌^◌, ◌<◌, Bool, cond, ◌&&◌, List, length, replicate, Ok, Err, Result, ◌==◌, nat_le}
-use Rattle.std.specs.List.{AllByRecursion as All}
+use Rattle.std.specs.List.{AllByRecursion}
 use Rattle.interfaces.specs.declared.code.Code.{Code}
 use Rattle.interfaces.specs.declared.code.Code.TheVariants.{Size}
 
@@ -22,7 +22,7 @@ pub record Hashing : Type 0 where
 -- What every hash owes: its digests are byte strings of one length, which is that of a digest.
 pub record Lawful (h : Hashing) : Type 0 where
   pub sized : (s : List ℕ) → length (h.digest s) ≡ h.size
-  pub bytes : (s : List ℕ) → All (λ b. b < 256) (h.digest s)
+  pub bytes : (s : List ℕ) → AllByRecursion (λ b. b < 256) (h.digest s)
   pub long : h.size ≡ digest_length
   pub short : h.identifier < 2 ^ 16
 

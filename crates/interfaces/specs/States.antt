@@ -1,6 +1,6 @@
 -- What a reader state means, and what reading it answers.
 use Rattle.std.specs.Prelude.{◌≡◌, ℕ, ◌^◌, ◌<◌, ◌≤◌, Bool, ◌&&◌, List, [], length, Some, None, Ok, Err, Option, Result, ◌==◌, nat_lt, slice_index_or}
-use Rattle.std.specs.List.{AllByRecursion as All}
+use Rattle.std.specs.List.{AllByRecursion}
 use Rattle.interfaces.specs.declared.code.Code.{Code}
 use Rattle.interfaces.specs.declared.code.Code.TheVariants.{Value, Handle, Size}
 use Rattle.interfaces.specs.Checks.{Bytes, first, unless, refused_with}
@@ -45,8 +45,8 @@ pub record Snapshot : Type 0 where
 -- What every reader state owes: its parts have their number, their lengths and their ranges.
 pub record Sound (s : Snapshot) : Type 0 where
   pub pcrs_all : length s.pcrs ≡ pcr_count
-  pub pcrs_long : All (λ p. length p ≡ pcr_length) s.pcrs
-  pub pcrs_bytes : All Bytes s.pcrs
+  pub pcrs_long : AllByRecursion (λ p. length p ≡ pcr_length) s.pcrs
+  pub pcrs_bytes : AllByRecursion Bytes s.pcrs
   pub count_fits : s.count < 2 ^ 64
   pub names_long : (name value : List ℕ) → s.stored name ≡ Some value → length name ≡ name_length
   pub values_short : (name value : List ℕ) → s.stored name ≡ Some value → length value ≤ value_limit

@@ -1,6 +1,6 @@
 -- Laws of joining digests.
 use Rattle.std.proofs.Common.{◌≡◌, ℕ, ◌+◌, ◌*◌, ◌<◌, ◌≤◌, List, [], ◌∷◌, ◌++◌, map, length, get_or, take, Ok, Err, sym, refl, ap, ◌∙◌, suc-mul, add_comm, zero-mul, arith}
-use Rattle.std.specs.List.{flat_map, AllByRecursion as All}
+use Rattle.std.specs.List.{flat_map, AllByRecursion}
 use Rattle.std.proofs.lemmas.List.{length-append, length-replicate, flat_map_more, take_more}
 use Rattle.std.proofs.lemmas.Bool.{lt-leb, le-leb, and_left, and_right, and_from, cond-true, cond-false}
 use Rattle.interfaces.specs.declared.code.Code.TheVariants.{Size}
@@ -17,7 +17,7 @@ joined_map f (x ∷ xs) = ap (λ l. f x ++ l) (joined_map f xs)
 pub joined_step : {X : Type 0} (f : X → List ℕ) (pre : List ℕ) (xs : List X) (i : ℕ) (d : X) → i < length xs → (pre ++ flat_map f (take i xs)) ++ f (get_or xs i d) ≡ pre ++ flat_map f (take (i + 1) xs)
 joined_step f pre xs i d l = flat_map_more f pre (take i xs) (get_or xs i d) ∙ ap (λ ys. pre ++ flat_map f ys) (sym (take_more xs i d l))
 
-joined_length : (size : ℕ) (ds : List (List ℕ)) → All (λ d. length d ≡ size) ds → length (flat_map (λ d. d) ds) ≡ length ds * size
+joined_length : (size : ℕ) (ds : List (List ℕ)) → AllByRecursion (λ d. length d ≡ size) ds → length (flat_map (λ d. d) ds) ≡ length ds * size
 joined_length size [] a = sym (zero-mul size)
 joined_length size (d ∷ ds) a = length-append d (flat_map (λ d. d) ds) ∙ (λ i. a.0 i + joined_length size ds a.1 i) ∙ add_comm size (length ds * size) ∙ sym (suc-mul (length ds) size)
 

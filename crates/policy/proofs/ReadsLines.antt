@@ -1,7 +1,7 @@
 -- Reading a policy line inverts writing it.
 use Rattle.std.proofs.Common.{◌≡◌, ℕ, ◌<◌, List, [], ◌∷◌, ◌++◌, Some, None, codes, decimal, Option, sym, refl, ap, ◌∙◌, subst, inl, inr, arith}
 use Rattle.std.specs.Option.{option_map}
-use Rattle.std.specs.List.{AllByRecursion as All}
+use Rattle.std.specs.List.{AllByRecursion}
 use Rattle.std.proofs.lemmas.List.{append-nil}
 use Rattle.std.proofs.ByRecursion.{All-append}
 use Rattle.interfaces.specs.declared.fault.Refusal.{Refusal}
@@ -38,7 +38,7 @@ module _ (b : ℕ) (low : b < 48) where
   line_word_without (any n) = omega arith
   line_word_without (extend a) = word_without b low a
 
-  line_fields_without : (l : Line) → Holds l → All (Without b) (line_fields l)
+  line_fields_without : (l : Line) → Holds l → AllByRecursion (Without b) (line_fields l)
   line_fields_without start h = tt
   line_fields_without (any n) h = (decimal_without b low n h, tt)
   line_fields_without (extend a) h = fields_without b low a h

@@ -1,6 +1,6 @@
 -- An assertion's word and fields are read as the assertion, and nothing else is.
 use Rattle.std.proofs.Common.{◌≡◌, ℕ, ◌<◌, List, [], ◌∷◌, ◌++◌, get_or, Some, codes, decimal, sym, refl, ap, ◌∙◌, subst, arith}
-use Rattle.std.specs.List.{AllByRecursion as All}
+use Rattle.std.specs.List.{AllByRecursion}
 use Rattle.std.proofs.lemmas.List.{append_assoc, append-nil}
 use Rattle.std.proofs.ByRecursion.{All-get_or}
 use Rattle.text.specs.Cut.{tab, fields}
@@ -57,10 +57,10 @@ module _ (b : ℕ) (low : b < 48) where
   word_without presence = omega arith
   word_without password = omega arith
 
-  comparison_without : (c : Comparison) → HoldsComparison c → All (Without b) (comparison_fields c)
+  comparison_without : (c : Comparison) → HoldsComparison c → AllByRecursion (Without b) (comparison_fields c)
   comparison_without c h = (pairs_without b low c.operand, (decimal_without b low c.offset h.1, (decimal_without b low c.operation h.2, tt)))
 
-  pub fields_without : (a : Assertion) → HoldsAssertion a → All (Without b) (assertion_fields a)
+  pub fields_without : (a : Assertion) → HoldsAssertion a → AllByRecursion (Without b) (assertion_fields a)
   fields_without (pcr selection digest) h = (pairs_without b low selection, (pairs_without b low digest, tt))
   fields_without (nv name c) h = (pairs_without b low name, comparison_without c h.1)
   fields_without (time c) h = comparison_without c h

@@ -1,7 +1,7 @@
 -- A digest has 32 bytes.
 use Rattle.std.specs.Prelude.{◌≡◌, ℕ, ◌*◌, ◌/◌, ◌<◌, List, length, take, refl}
 use Rattle.std.proofs.Common.{ap, ◌∙◌, arith}
-use Rattle.std.specs.List.{AllByRecursion as All}
+use Rattle.std.specs.List.{AllByRecursion}
 use Rattle.std.proofs.lemmas.List.{length-take-le}
 use Rattle.blocks.specs.Blocks.{absorb}
 use Rattle.blocks.proofs.Absorbed.{absorb-length}
@@ -21,13 +21,13 @@ sized m =
     let all = absorb-length taken 136 25 long n (pad m) S0 refl in
     written-length lane_bytes 8 (λ x. refl) (take 4 s) ∙ ap (λ k. 8 * k) (length-take-le 4 s (omega arith))
 
-small : (x : ℕ) → All (λ b. b < 256) (lane_bytes x)
+small : (x : ℕ) → AllByRecursion (λ b. b < 256) (lane_bytes x)
 unfolding lane_bytes
 small x = (
   omega arith,
   (omega arith, (omega arith, (omega arith, (omega arith, (omega arith, (omega arith, (omega arith, tt))))))),
 )
 
-pub bytes : (m : List ℕ) → All (λ b. b < 256) (sha3_256 m)
+pub bytes : (m : List ℕ) → AllByRecursion (λ b. b < 256) (sha3_256 m)
 unfolding sha3_256
 bytes m = written-bytes lane_bytes small (take 4 (absorb taken 136 (length (pad m) / 136) (pad m) S0))

@@ -1,6 +1,6 @@
 -- Laws of changes: the string that is hashed to extend a PCR, and a state with a value put.
 use Rattle.std.proofs.Common.{◌≡◌, ℕ, ◌+◌, ◌<◌, ◌≤◌, true, false, cond, ◌&&◌, ◌||◌, eqb, ltb, leb, List, [], ◌++◌, length, is_some, Some, None, Decides, Option, sym, refl, ap, ◌∙◌, subst, arith}
-use Rattle.std.specs.List.{ContainsAt as Has}
+use Rattle.std.specs.List.{ContainsAt}
 use Rattle.std.specs.Str.{bytes_eq}
 use Rattle.std.proofs.lemmas.Slice.Eq.{bytes_eq-Decides}
 use Rattle.std.proofs.lemmas.List.{length-map, take_all}
@@ -47,7 +47,7 @@ holding v s e = record {
   names = keys (held v);
   counted = length-map (held v) (λ x. x.0);
   once = keys_once bytes_eq bytes_eq-Decides (held v) [] v.once;
-  exactly = λ name. subst (λ f. Decides (is_some (f name)) (Has (keys (held v)) name)) (sym e) (held_keys bytes_eq bytes_eq-Decides (held v) name);
+  exactly = λ name. subst (λ f. Decides (is_some (f name)) (ContainsAt (keys (held v)) name)) (sym e) (held_keys bytes_eq bytes_eq-Decides (held v) name);
 }
 
 -- the state with another table of values

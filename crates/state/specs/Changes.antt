@@ -1,7 +1,7 @@
 -- How a reader state may be changed: each change of a state as a whole, with its checks in their
 -- order.
 use Rattle.std.specs.Prelude.{◌≡◌, ℕ, ◌+◌, ◌-◌, ◌^◌, ◌<◌, Bool, false, cond, ◌&&◌, ◌||◌, List, [], ◌++◌, length, replicate, is_some, Some, None, Decides, Option, Result, ◌==◌, nat_le, nat_lt, slice_index_or, slice_set}
-use Rattle.std.specs.List.{ContainsAt as Has}
+use Rattle.std.specs.List.{ContainsAt}
 use Rattle.std.specs.Str.{bytes_eq}
 use Rattle.interfaces.specs.declared.code.Code.{Code}
 use Rattle.interfaces.specs.declared.code.Code.TheVariants.{Value, Size, Memory}
@@ -56,7 +56,7 @@ pub record Holding (s : Snapshot) (number : ℕ) : Type 0 where
   pub names : List (List ℕ)
   pub counted : length names ≡ number
   pub once : (i j : ℕ) → i < length names → j < length names → slice_index_or names i [] ≡ slice_index_or names j [] → i ≡ j
-  pub exactly : (name : List ℕ) → Decides (is_some (s.stored name)) (Has names name)
+  pub exactly : (name : List ℕ) → Decides (is_some (s.stored name)) (ContainsAt names name)
 
 -- Putting a value: one more than the most is refused, unless it replaces one.
 abbrev pub put_flaw : Snapshot → ℕ → List ℕ → List ℕ → Option Code

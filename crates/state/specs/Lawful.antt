@@ -1,7 +1,7 @@
 -- The reader's own state keeps the bounds of a reader state.
 use Rattle.std.specs.Prelude.{◌≡◌, ℕ, zero, suc, ◌<◌, ◌≤◌, List, [], ◌∷◌, map, length, take, Some, slice_index_or}
 use Rattle.std.proofs.Common.{arith, ◌∙◌}
-use Rattle.std.specs.List.{AllByRecursion as All}
+use Rattle.std.specs.List.{AllByRecursion}
 use Rattle.std.specs.Str.{bytes_eq}
 use Rattle.std.proofs.ByRecursion.{All-take}
 use Rattle.std.proofs.lemmas.Slice.Eq.{bytes_eq-Decides}
@@ -19,11 +19,11 @@ use Rattle.state.specs.declared.values.Values.{Values}
 use Rattle.state.specs.Entries.{entry_of}
 use Rattle.state.specs.Views.{held, own_snapshot}
 
-pcrs_long : (ps : List Pcr) → All (λ p. length p ≡ pcr_length) (map pcr_bytes ps)
+pcrs_long : (ps : List Pcr) → AllByRecursion (λ p. length p ≡ pcr_length) (map pcr_bytes ps)
 pcrs_long [] = tt
 pcrs_long (p ∷ ps) = (p.long, pcrs_long ps)
 
-pcrs_bytes : (ps : List Pcr) → All Bytes (map pcr_bytes ps)
+pcrs_bytes : (ps : List Pcr) → AllByRecursion Bytes (map pcr_bytes ps)
 pcrs_bytes [] = tt
 pcrs_bytes (p ∷ ps) = (small_bytes p.bytes p.small, pcrs_bytes ps)
 

@@ -1,7 +1,7 @@
 -- Laws of tables under keys, for every kind of key and any test that decides whether two are equal.
 use Rattle.std.proofs.Common.{◌≡◌, ℕ, zero, suc, ◌+◌, ◌<◌, Bool, true, false, cond, not, List, [], ◌∷◌, ◌++◌, map, length, get_or, take, set, is_some, Some, None, Decides, Option, sym, refl, ap, ◌∙◌, subst, arith}
 use Rattle.std.specs.Option.{option_map}
-use Rattle.std.specs.List.{ContainsAt as Has}
+use Rattle.std.specs.List.{ContainsAt}
 use Rattle.std.proofs.lemmas.List.{get_or-map, length-map}
 use Rattle.std.proofs.lemmas.Bool.{cond-true, cond-false, both_ways, and_parts, and_from, not-true}
 use Rattle.tables.specs.Tables.{value_under, place_under, put_under, distinct}
@@ -161,7 +161,7 @@ module _ {K V : Type 0} (same : K → K → Bool) (tells : (x y : K) → Decides
       go true t = refl
       go false t = t
 
-  held_has : (es : List (K × V)) (key : K) (o : Option ℕ) → Located same es key o → is_some (value_under same es key) ≡ true → Has (keys es) key
+  held_has : (es : List (K × V)) (key : K) (o : Option ℕ) → Located same es key o → is_some (value_under same es key) ≡ true → ContainsAt (keys es) key
   held_has es key None a t = absurd (both_ways _ (ap is_some (absent_value same es key a)) t)
   held_has es key (Some p) f t =
       let within = first-within same es key p f in
@@ -172,7 +172,7 @@ module _ {K V : Type 0} (same : K → K → Bool) (tells : (x y : K) → Decides
       go d (Some v) e t = get_or-map (λ x. x.0) es p (key, v) d (first-within same es key p f) ∙ (tells _ _).0 (first_key same es key p (key, v) f)
 
   -- a key is held exactly when it is one of the keys
-  pub held_keys : (es : List (K × V)) (key : K) → Decides (is_some (value_under same es key)) (Has (keys es) key)
+  pub held_keys : (es : List (K × V)) (key : K) → Decides (is_some (value_under same es key)) (ContainsAt (keys es) key)
   held_keys es key = (held_has es key (place_under same es key) (located same es key), λ h. subst (λ k. is_some (value_under same es k) ≡ true) (h.2 key) (key_held es h.0 key h.1))
 
   pub keys_once : (es : List (K × V)) (d : K) → distinct same es ≡ true → (i j : ℕ) → i < length (keys es) → j < length (keys es) → get_or (keys es) i d ≡ get_or (keys es) j d → i ≡ j

@@ -1,7 +1,7 @@
 -- Reading inverts writing: digit pairs, decimals, fields and lines.
 use Rattle.std.proofs.Common.{◌≡◌, ℕ, zero, suc, ◌+◌, ◌*◌, ◌/◌, ◌%◌, ◌<◌, ◌≤◌, Bool, true, false, cond, ◌&&◌, eqb, leb, List, [], ◌∷◌, ◌++◌, length, get_or, Some, None, decimal, sym, refl, ap, ◌∙◌, arith, rules}
 use Rattle.std.specs.Int.{IsInRange}
-use Rattle.std.specs.List.{AllByRecursion as All}
+use Rattle.std.specs.List.{AllByRecursion}
 use Rattle.std.proofs.lemmas.List.{append-nil}
 use Rattle.std.proofs.ByRecursion.{All-append, All-weaker}
 use Rattle.std.proofs.lemmas.Str.Parse.{IsNumeralModel, numerals_by_fold}
@@ -23,14 +23,14 @@ digit_back : (c v : ℕ) → hex_value c ≡ Some v → (hex_digit v ≡ c) × (
 digit_back c v e = (grind (arith, nat_tests), grind (arith, nat_tests))
 
 -- the bytes that were written are read
-pub unpaired-pairs : (bs : List ℕ) → All (λ b. b < 256) bs → unpaired (pairs bs) ≡ Some bs
+pub unpaired-pairs : (bs : List ℕ) → AllByRecursion (λ b. b < 256) bs → unpaired (pairs bs) ≡ Some bs
 unpaired-pairs [] h = refl
 unpaired-pairs (b ∷ bs) h =
     let whole : b / 16 * 16 + b % 16 ≡ b = omega arith in
     rw (hex_back (b / 16) (omega arith), hex_back (b % 16) (omega arith), unpaired-pairs bs h.1) (ap (λ n. Some (n ∷ bs)) whole)
 
 -- a field that is read as bytes is those bytes as written
-pub pairs-unpaired : (s bs : List ℕ) → unpaired s ≡ Some bs → (pairs bs ≡ s) × All (λ b. b < 256) bs
+pub pairs-unpaired : (s bs : List ℕ) → unpaired s ≡ Some bs → (pairs bs ≡ s) × AllByRecursion (λ b. b < 256) bs
 pairs-unpaired [] bs e = let z : [] ≡ bs = cc in rw (← z) (refl, tt)
 pairs-unpaired (x ∷ []) bs e = absurd (let z : ◌≡◌ {A = ℕ} 0 1 = cc in omega arith)
 pairs-unpaired (x ∷ y ∷ cs) bs e =
@@ -49,7 +49,7 @@ value_from n (c ∷ cs) = value_from (shifted n c) cs
 
 -- all are decimal digits
 abbrev Decimal : List ℕ → Type 0
-Decimal ds = All (IsInRange 48 57) ds
+Decimal ds = AllByRecursion (IsInRange 48 57) ds
 
 -- the laws of decimals, in these words
 own : IsNumeralModel Decimal (value_from 0)
@@ -119,7 +119,7 @@ decimal-number s n e =
 
 -- b does not stand in s
 abbrev pub Without : ℕ → List ℕ → Type 0
-Without b s = All (λ c. c ≡ b → ⊥) s
+Without b s = AllByRecursion (λ c. c ≡ b → ⊥) s
 
 -- a digit is 48 or more
 hex_above : (v : ℕ) → 48 ≤ hex_digit v
@@ -149,12 +149,12 @@ tabs [] = []
 tabs (f ∷ fs) = tab ∷ f ++ tabs fs
 
 -- a byte other than the tab that stands in no field stands in none behind tabs
-pub tabs_without : (b : ℕ) → (tab ≡ b → ⊥) → (fs : List (List ℕ)) → All (Without b) fs → Without b (tabs fs)
+pub tabs_without : (b : ℕ) → (tab ≡ b → ⊥) → (fs : List (List ℕ)) → AllByRecursion (Without b) fs → Without b (tabs fs)
 tabs_without b n [] h = tt
 tabs_without b n (f ∷ fs) h = (n, All-append (λ c. c ≡ b → ⊥) f (tabs fs) h.0 (tabs_without b n fs h.1))
 
 -- the fields that were written are read
-pub fields_tabs : (w : List ℕ) (fs : List (List ℕ)) → Without tab w → All (Without tab) fs → fields (w ++ tabs fs) ≡ w ∷ fs
+pub fields_tabs : (w : List ℕ) (fs : List (List ℕ)) → Without tab w → AllByRecursion (Without tab) fs → fields (w ++ tabs fs) ≡ w ∷ fs
 fields_tabs w [] a b = ap fields (append-nil w) ∙ fields-one w a
 fields_tabs w (f ∷ fs) a b = fields-more w (f ++ tabs fs) a ∙ ap (λ l. w ∷ l) (fields_tabs f fs b.0 b.1)
 
