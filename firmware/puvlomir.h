@@ -1,7 +1,7 @@
 /*
  * The key chest's digest of a policy text, for C firmware.
  *
- * Link with libfirmware.a (rt staticlib firmware). The entries allocate nothing, keep nothing between
+ * Link with libfirmware.a (rt lib in crates/firmware). The entries allocate nothing, keep nothing between
  * calls, and answer every input: a text of any bytes and length, a buffer of any length.
  */
 #ifndef PUVLOMIR_H

@@ -108,7 +108,7 @@ fn print_all<H: Hash>(rt: &HostRuntime, hash: &H, name: &str) -> anyhow::Result<
 
 fn main(rt: HostRuntime) -> anyhow::Result<()> {
     print_all(&rt, &Sha256, "sha256")?;
-    print_all(&rt, &Sha3, "sha3_256")
+    print_all(&rt, &Sha3, "sha3-256")
 }
 
 #[cfg(test)]
