@@ -1,5 +1,5 @@
 -- Checks in their order, and what a refusal leaves.
-use Rattle.std.specs.Prelude.{ℕ, ◌-◌, ◌<◌, Bool, cond, List, ◌++◌, length, replicate, Some, None, Ok, Err, Option, Result, nat_le}
+use Rattle.std.specs.Prelude.{ℕ, ◌-◌, ◌<◌, Bool, cond, List, ◌++◌, length, replicate, Some, None, Ok, Err, Option, Result, ◌==◌, nat_le}
 use Rattle.std.specs.List.{AllByRecursion}
 use Rattle.interfaces.specs.declared.code.Code.{Code}
 use Rattle.interfaces.specs.declared.code.Code.TheVariants.{Size}
@@ -30,6 +30,10 @@ settled (Some c) after before = before
 -- Bytes that are to be written into a buffer of `room` bytes.
 abbrev pub fitting : List ℕ → ℕ → Result (List ℕ) Code
 fitting bs room = refused_with (unless (nat_le (length bs) room) Size) bs
+
+-- Bytes that should have a length.
+abbrev pub of_length : ℕ → List ℕ → Result (List ℕ) Code
+of_length n bs = refused_with (unless (length bs == n) Size) bs
 
 -- What an answer of bytes means to a caller who reads only its length, or only that it came.
 abbrev pub counted : Result (List ℕ) Code → Result ℕ Code

@@ -1,8 +1,9 @@
 -- What a hash means, and what hashing answers and writes.
-use Rattle.std.specs.Prelude.{◌≡◌, ℕ, ◌^◌, ◌<◌, Bool, cond, ◌&&◌, List, length, replicate, Ok, Err, Result, ◌==◌, nat_le}
+use Rattle.std.specs.Prelude.{◌≡◌, ℕ, ◌^◌, ◌<◌, Bool, cond, ◌&&◌, List, length, replicate, Ok, Err, Option, Result, ◌==◌, nat_le}
 use Rattle.std.specs.List.{AllByRecursion}
 use Rattle.interfaces.specs.declared.code.Code.{Code}
 use Rattle.interfaces.specs.declared.code.Code.TheVariants.{Size}
+use Rattle.interfaces.specs.Checks.{unless}
 
 -- The length of a digest, in bytes: the one definition.
 abbrev pub digest_length : ℕ
@@ -29,6 +30,10 @@ pub record Lawful (h : Hashing) : Type 0 where
 -- The zero digest.
 abbrev pub zeros : Hashing → List ℕ
 zeros h = replicate h.size 0
+
+-- The check of a string that is to be hashed.
+abbrev pub text_flaw : List ℕ → Option Code
+text_flaw s = unless (nat_le (length s) hash_limit) Size
 
 -- A request to hash s into a buffer of `room` bytes is sound: the string is within the limit and
 -- the buffer has a digest's length.

@@ -1,6 +1,9 @@
 // The response codes, named after TPM 2.0.
 ghost use Rattle.std.specs.Prelude.{◌≡◌};
+ghost use Rattle.interfaces.specs.declared.code.Code.TheVariants.{Size};
 ghost use Rattle.interfaces.specs.Numbers.{code_number};
+
+use std::array::TryFromSliceError;
 
 #[derive(Clone, Copy, Debug, PartialEq, Eq)]
 pub enum Code {
@@ -20,10 +23,20 @@ pub enum Code {
     Lockout = 0x921,
 }
 
-impl Code {
-    pub fn number(self) -> u16
-        ensures { result ≡ code_number self }
-    {
-        self as u16
+// A code's number.
+impl From<Code> for u16 {
+    ghost from_gives = { λ code n. n ≡ code_number code };
+
+    fn from(code: Code) -> u16 {
+        code as u16
+    }
+}
+
+// Bytes of another length than they should have are refused with this code.
+impl From<TryFromSliceError> for Code {
+    ghost from_gives = { λ _ code. code ≡ Size };
+
+    fn from(_error: TryFromSliceError) -> Code {
+        Code::Size
     }
 }

@@ -13,13 +13,16 @@ pub enum Layer {
     Call = 3,
 }
 
-impl Layer {
-    pub fn number(self) -> u8
-        ensures { result ≡ layer_number self }
-    {
-        self as u8
-    }
+// A layer's number.
+impl From<Layer> for u8 {
+    ghost from_gives = { λ layer n. n ≡ layer_number layer };
 
+    fn from(layer: Layer) -> u8 {
+        layer as u8
+    }
+}
+
+impl Layer {
     // The word that stands for the layer in a program's output.
     pub fn word(self) -> &'static [u8]
         ensures { result.now ≡ layer_word self }

@@ -3,6 +3,7 @@
 #![tactic(auto)]
 
 pub mod buffer;
+pub mod byte_array;
 pub mod code;
 pub mod digest;
 pub mod fault;
