@@ -1,5 +1,5 @@
 -- Up to N items in a fixed array, as the list of the items.
-use Rattle.std.specs.Prelude.{ℕ, ◌+◌, Bool, List, length, take, nat_le}
+use Rattle.std.specs.Prelude.{◌≡◌, ℕ, ◌+◌, ◌<◌, ◌≤◌, List, ◌++◌, length, take, Result, MatchResult}
 use Rattle.arrays.specs.declared.array_vec.ArrayVec.{ArrayVec}
 use Rattle.arrays.specs.declared.array_vec.Full.{Full}
 
@@ -7,10 +7,17 @@ use Rattle.arrays.specs.declared.array_vec.Full.{Full}
 abbrev pub items : {T : Type 0} {N : ℕ} → ArrayVec T N → List T
 items v = take v.len v.all
 
--- There is room for these items behind the others.
-abbrev pub fits : {T : Type 0} → ℕ → List T → List T → Bool
-fits room old more = nat_le (length old + length more) room
+module _ {T : Type 0} (room : ℕ) (old more : List T) where
+  -- All of `more` stands behind the old items.
+  pub record Behind (new : List T) : Type 0 where
+    pub within : length old + length more ≤ room
+    pub joined : new ≡ old ++ more
 
--- The refusal of items for which there is no room.
-abbrev pub full : Full
-full = record {}
+  -- There is no room for all of `more`, and nothing changed.
+  pub record NoRoom (new : List T) : Type 0 where
+    pub over : room < length old + length more
+    pub same : new ≡ old
+
+  -- What putting `more` behind the old items answered and left.
+  abbrev pub Puts : Result (Unit {0}) Full → List T → Type 0
+  Puts r new = MatchResult r (λ _. Behind new) (λ _. NoRoom new)
