@@ -1,11 +1,15 @@
 -- Laws of cutting at a byte.
-use Rattle.std.proofs.Common.{◌≡◌, ℕ, suc, ◌+◌, ◌<◌, ◌≤◌, Bool, true, false, cond, eqb, List, [], ◌∷◌, ◌++◌, length, get_or, take, drop, Some, None, Option, unwrap_or, sym, refl, ap, ◌∙◌, arith}
+use Rattle.std.proofs.Common.{◌≡◌, ℕ, zero, suc, ◌+◌, ◌<◌, ◌≤◌, Bool, true, false, cond, eqb, ltb, List, [], ◌∷◌, ◌++◌, length, get_or, take, drop, Some, None, Option, unwrap_or, sym, refl, ap, subst, ◌∙◌, arith, Bor}
 use Rattle.std.proofs.lemmas.List.{take_more, drop_more, drop_all, take_all, append_assoc, append-nil, nil_from_length}
-use Rattle.std.proofs.lemmas.Bool.{eq-eqb, ne_eqb, cond-true, cond-false}
+use Rattle.std.proofs.lemmas.Bool.{eq-eqb, eqb-true, eqb-false, ne_eqb, ltb-false, cond-true, cond-false}
+use Rattle.std.proofs.lemmas.List.Quantifiers.{position-Some}
+use Rattle.std.proofs.lemmas.List.Sums.{fails_before_first}
+use Rattle.std.specs.Option.{option_map}
+use Rattle.std.specs.List.{position, position_or_len}
 use Rattle.text.specs.Cut.{line_feed, tab, attached, lines, fields, further, before, after, first_line}
 
 -- the lines of what follows a line feed
-abbrev pub later_lines : Option (List ℕ) → List (List ℕ)
+abbrev later_lines : Option (List ℕ) → List (List ℕ)
 later_lines None = []
 later_lines (Some s) = lines s
 
@@ -59,7 +63,7 @@ pub record Passed (b : ℕ) (s : List ℕ) (i : ℕ) : Type 0 where
   pub front : before b s ≡ take i s ++ before b (drop i s)
   pub back : after b s ≡ after b (drop i s)
 
-pub passed_more : (b : ℕ) (s : List ℕ) (i : ℕ) → i < length s → (get_or s i 0 ≡ b → ⊥) → Passed b s i → Passed b s (i + 1)
+passed_more : (b : ℕ) (s : List ℕ) (i : ℕ) → i < length s → (get_or s i 0 ≡ b → ⊥) → Passed b s i → Passed b s (i + 1)
 passed_more b s i within other p =
     let rest = drop_more s i 0 within in
     let x = get_or s i 0 in
@@ -69,32 +73,73 @@ passed_more b s i within other p =
       back = p.back ∙ ap (after b) rest ∙ after-other b x r other;
     }
 
-pub passed_found : (b : ℕ) (s : List ℕ) (i : ℕ) → i < length s → get_or s i 0 ≡ b → Passed b s i → (before b s ≡ take i s) × (after b s ≡ Some (drop (i + 1) s))
+passed_found : (b : ℕ) (s : List ℕ) (i : ℕ) → i < length s → get_or s i 0 ≡ b → Passed b s i → (before b s ≡ take i s) × (after b s ≡ Some (drop (i + 1) s))
 passed_found b s i within here p =
     let rest = drop_more s i 0 within in
     let x = get_or s i 0 in
     let r = drop (i + 1) s in
     (p.front ∙ ap (λ l. take i s ++ l) (ap (before b) rest ∙ before_found b x r here) ∙ append-nil (take i s), p.back ∙ ap (after b) rest ∙ after_found b x r here)
 
-pub passed_all : (b : ℕ) (s : List ℕ) (i : ℕ) → length s ≤ i → Passed b s i → (before b s ≡ s) × (after b s ≡ None)
+passed_all : (b : ℕ) (s : List ℕ) (i : ℕ) → length s ≤ i → Passed b s i → (before b s ≡ s) × (after b s ≡ None)
 passed_all b s i past p =
     let rest = drop_all i s past in
     (p.front ∙ ap (λ l. take i s ++ before b l) rest ∙ append-nil (take i s) ∙ take_all i s past, p.back ∙ ap (after b) rest)
 
+-- b stands in none of the first i bytes
+passed-before : (b : ℕ) (s : List ℕ) (i : ℕ) → i ≤ length s → ((k : ℕ) → k < i → eqb (get_or s k 0) b ≡ false) → Passed b s i
+passed-before b s zero h other = record { front = refl; back = refl }
+passed-before b s (suc i) h other =
+    let n : i + 1 ≡ suc i = omega arith in
+    subst (Passed b s) n (passed_more b s i (omega arith) (eqb-false (get_or s i 0) b (other i (omega arith))) (passed-before b s i (omega arith) (λ k l. other k (omega arith))))
+
+-- cut at the place where b was found, or not at all
+pub cut_found : (b : ℕ) (s : List ℕ) (i : ℕ) → position (λ c. eqb c b) s ≡ Some i → (before b s ≡ take i s) × (after b s ≡ Some (drop (i + 1) s))
+cut_found b s i e =
+    let at = position-Some (λ c. eqb c b) s i 0 e in
+    passed_found b s i at.0 (eqb-true (get_or s i 0) b at.1) (passed-before b s i (omega (arith, at.0)) at.2)
+
+pub cut_nowhere : (b : ℕ) (s : List ℕ) → position (λ c. eqb c b) s ≡ None → (before b s ≡ s) × (after b s ≡ None)
+cut_nowhere b s e =
+    let past : length s ≤ position_or_len (λ c. eqb c b) s = by (ltb (position_or_len (λ c. eqb c b) s) (length s)) refl e in
+    passed_all b s (length s) (omega arith) (passed-before b s (length s) (omega arith) (λ k h. fails_before_first (λ c. eqb c b) s k 0 (omega arith)))
+  where
+    by : (t : Bool) → ltb (position_or_len (λ c. eqb c b) s) (length s) ≡ t → cond t (Some (position_or_len (λ c. eqb c b) s)) None ≡ None → length s ≤ position_or_len (λ c. eqb c b) s
+    by true l f = absurd (let z : ◌≡◌ {A = ℕ} 0 1 = cc in omega arith)
+    by false l f = ltb-false _ _ l
+
 pub lines_none : (s : List ℕ) → length s ≡ 0 → lines s ≡ []
 lines_none s e = ap lines (nil_from_length s e)
 
-pub lines-first : (s : List ℕ) → 0 < length s → lines s ≡ before line_feed s ∷ later_lines (after line_feed s)
+lines-first : (s : List ℕ) → 0 < length s → lines s ≡ before line_feed s ∷ later_lines (after line_feed s)
 lines-first [] h = absurd (omega arith)
 lines-first (c ∷ cs) h = lines_cut c cs
 
-pub after_shorter : (b : ℕ) (s r : List ℕ) → after b s ≡ Some r → length r < length s
+after_shorter : (b : ℕ) (s r : List ℕ) → after b s ≡ Some r → length r < length s
 after_shorter b [] r e = absurd (let z : ◌≡◌ {A = ℕ} 0 1 = cc in omega arith)
 after_shorter b (c ∷ cs) r e = by (eqb c b) e (after_shorter b cs r)
   where
     by : (t : Bool) → cond t (Some cs) (after b cs) ≡ Some r → (after b cs ≡ Some r → length r < length cs) → length r < suc (length cs)
     by true f h = let same : cs ≡ r = cc in omega (arith, ap length same)
     by false f h = omega (arith, h f)
+
+-- what is left of a text behind its first line
+pub rest_lines : (s : List ℕ) → 0 < length s → lines s ≡ before line_feed s ∷ lines (unwrap_or (after line_feed s) [])
+rest_lines s h = lines-first s h ∙ ap (λ l. before line_feed s ∷ l) (by (after line_feed s))
+  where
+    by : (o : Option (List ℕ)) → later_lines o ≡ lines (unwrap_or o [])
+    by None = refl
+    by (Some r) = refl
+
+pub rest_shorter : (s : List ℕ) → 0 < length s → length (unwrap_or (after line_feed s) []) < length s
+rest_shorter s h = by (after line_feed s) refl
+  where
+    by : (o : Option (List ℕ)) → after line_feed s ≡ o → length (unwrap_or o []) < length s
+    by None e = h
+    by (Some r) e = after_shorter line_feed s r e
+
+pub unwrap_now : (o : Option (Bor (List ℕ))) (d : Bor (List ℕ)) → (unwrap_or o d).now ≡ unwrap_or (option_map (λ x. x.now) o) d.now
+unwrap_now None d = refl
+unwrap_now (Some x) d = refl
 
 pub first-none : (s : List ℕ) → length s ≡ 0 → None ≡ first_line s
 first-none s e = sym (ap first_line (nil_from_length s e))

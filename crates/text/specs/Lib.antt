@@ -1,4 +1,3 @@
 pub mod Cut
 pub mod Numbers
 pub mod Pairs
-pub mod Writing

@@ -1,5 +1,5 @@
 // Byte strings as lower-case hexadecimal digit pairs.
-ghost use Rattle.std.specs.Prelude.{◌≡◌, ℕ, ◌+◌, ◌*◌, false, List, length, replicate, if◌then◌else◌, Some, None, MatchOption};
+ghost use Rattle.std.specs.Prelude.{◌≡◌, ℕ, ◌+◌, ◌*◌, List, length, replicate, Some, None, MatchOption};
 ghost use Rattle.std.specs.Option.{option_map, unwrap_or};
 ghost use Rattle.text.specs.Pairs.{hex_value, unpaired, of_length};
 
@@ -24,9 +24,7 @@ pub fn pair_count(field: &[u8]) -> Option<usize>
         return None;
     }
     for c in field {
-        if hex_value(*c).is_none() {
-            return None;
-        }
+        hex_value(*c)?;
     }
     Some(field.len() / 2)
 }
@@ -41,21 +39,30 @@ fn fill_pairs(field: &[u8], out: &mut [u8])
     requires { option_map length (unpaired field.now) ≡ Some (length out.old) }
     ensures { unpaired field.now ≡ Some out.new }
 {
-    for i in 0..out.len() {
-        out[i] = pair_value(field[2 * i], field[2 * i + 1]);
+    for (i, byte) in out.iter_mut().enumerate() {
+        *byte = pair_value(field[2 * i], field[2 * i + 1]);
     }
 }
 
-// Decodes a field that stands for exactly as many bytes as the buffer has; else the buffer is
-// zeros and the answer false.
-pub fn unpair(field: &[u8], out: &mut [u8]) -> bool
-    ensures answer { of_length (length out.old) (unpaired field.now) ≡ (if result then Some out.new else None) }
-    ensures cleared { result ≡ false → out.new ≡ replicate (length out.old) 0 }
+// Decodes a field that stands for exactly as many bytes as the buffer has; else there is no answer,
+// and the buffer is zeros.
+pub fn unpair(field: &[u8], out: &mut [u8]) -> Option<()>
+    ensures answer { of_length (length out.old) (unpaired field.now) ≡ option_map (λ _. out.new) result }
+    ensures cleared { result ≡ None → out.new ≡ replicate (length out.old) 0 }
 {
     if pair_count(field) != Some(out.len()) {
         clear(out);
-        return false;
+        return None;
     }
     fill_pairs(field, out);
-    true
+    Some(())
+}
+
+// The bytes of a field that stands for exactly so many.
+pub fn decode<const N: usize>(field: &[u8]) -> Option<[u8; N]>
+    ensures { result ≡ of_length N (unpaired field.now) }
+{
+    let mut bytes = [0; N];
+    unpair(field, &mut bytes)?;
+    Some(bytes)
 }

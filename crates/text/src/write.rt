@@ -1,21 +1,10 @@
-// Writing into a buffer from a place on; what does not fit is refused, and nothing is written.
-ghost use Rattle.std.specs.Prelude.{◌≡◌, ◌%◌, ◌≤◌, length, take, decimal};
+// Digits put behind other bytes; what does not fit is refused, and nothing is put.
+ghost use Rattle.std.specs.Prelude.{◌≡◌, ◌%◌, decimal};
+ghost use Rattle.arrays.specs.Items.{items, Puts};
 ghost use Rattle.text.specs.Pairs.{hex_digit, pairs};
-ghost use Rattle.text.specs.Writing.{Wrote};
 
-// The most digits of a `usize`.
-const DECIMAL_LIMIT: usize = 20;
-
-pub fn put(out: &mut [u8], at: usize, more: &[u8]) -> Option<usize>
-    ensures { Wrote out.old at more.now result out.new }
-{
-    let end = at.checked_add(more.len())?;
-    if end > out.len() {
-        return None;
-    }
-    out[at..end].copy_from_slice(more);
-    Some(end)
-}
+use arrays::array_vec::{ArrayVec, Full};
+use itoa::Buffer;
 
 // The digit of the low four bits.
 pub fn hex_digit(v: u8) -> u8
@@ -29,37 +18,21 @@ pub fn hex_digit(v: u8) -> u8
     }
 }
 
-pub fn put_pairs(out: &mut [u8], at: usize, bytes: &[u8]) -> Option<usize>
-    ensures { Wrote out.old at (pairs bytes.now) result out.new }
+pub fn put_pairs<const N: usize>(out: &mut ArrayVec<u8, N>, bytes: &[u8]) -> Result<(), Full>
+    ensures { Puts N (items out.old) (pairs bytes.now) result (items out.new) }
 {
-    if at > out.len() || bytes.len() > (out.len() - at) / 2 {
-        return None;
+    if bytes.len() > (N - out.len()) / 2 {
+        return Err(Full);
     }
-    for (i, b) in bytes.iter().enumerate() {
-        out[at + 2 * i] = hex_digit(*b / 16);
-        out[at + 2 * i + 1] = hex_digit(*b);
+    for b in bytes {
+        out.extend(&[hex_digit(*b / 16), hex_digit(*b)])?;
     }
-    Some(at + 2 * bytes.len())
+    Ok(())
 }
 
-fn write_decimal(out: &mut [u8], n: usize) -> usize
-    requires { length (decimal n) ≤ length out.old }
-    ensures len { result ≡ length (decimal n) }
-    ensures front { take result out.new ≡ decimal n }
+pub fn put_decimal<const N: usize>(out: &mut ArrayVec<u8, N>, n: usize) -> Result<(), Full>
+    ensures { Puts N (items out.old) (decimal n) result (items out.new) }
 {
-    if n < 10 {
-        out[0] = b'0' + n as u8;
-        return 1;
-    }
-    let at = write_decimal(out, n / 10);
-    out[at] = b'0' + (n % 10) as u8;
-    at + 1
-}
-
-pub fn put_decimal(out: &mut [u8], at: usize, n: usize) -> Option<usize>
-    ensures { Wrote out.old at (decimal n) result out.new }
-{
-    let mut digits = [0; DECIMAL_LIMIT];
-    let len = write_decimal(&mut digits, n);
-    put(out, at, &digits[0..len])
+    let mut digits = Buffer::new();
+    out.extend(digits.format(n).as_bytes())
 }
