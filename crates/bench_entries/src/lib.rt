@@ -18,7 +18,7 @@ fn number(answer: Result<(), Code>) -> u16
 {
     match answer {
         Ok(()) => 0,
-        Err(code) => code.number(),
+        Err(code) => code.into(),
     }
 }
 

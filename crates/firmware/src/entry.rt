@@ -23,8 +23,8 @@ pub(crate) fn digest_entry<H: Hash>(hash: &H, text: &[u8], out: &mut [u8]) -> An
             lines: 0,
             branches: 0,
             line: fault.line,
-            layer: fault.layer.number(),
-            code: fault.code.number(),
+            layer: fault.layer.into(),
+            code: fault.code.into(),
         },
     }
 }

@@ -2,8 +2,6 @@
 // or its fault.
 #![tactic(auto)]
 
-ghost use Rattle.std.specs.Prelude.{◌≤◌, length, IfOk};
-
 use report::digest::digest_report;
 use sha256::Sha256;
 use std::io;
@@ -11,28 +9,11 @@ use std::io::{Read, Write};
 use tree::digest::TEXT_LIMIT;
 
 // One byte more than a policy text may have, so that a longer one is seen to be longer.
-const INPUT_LIMIT: usize = TEXT_LIMIT + 1;
-
-// Reads until the input ends or the buffer is full. Every turn but the last brings a byte.
-fn read_up_to(input: &mut io::Stdin, buffer: &mut [u8]) -> io::Result<usize>
-    ensures { IfOk result (λ n. n ≤ length buffer.old) }
-{
-    let mut len = 0;
-    for _ in 0..INPUT_LIMIT {
-        let got = input.read(&mut buffer[len..])?;
-        if got == 0 {
-            break;
-        }
-        len += got;
-    }
-    Ok(len)
-}
+const INPUT_LIMIT: u64 = TEXT_LIMIT as u64 + 1;
 
 fn main(rt: HostRuntime) -> io::Result<()> {
-    let mut buffer = [0; INPUT_LIMIT];
-    let mut input = rt.stdin();
-    let len = read_up_to(&mut input, &mut buffer)?;
-    let report = digest_report(&Sha256, &buffer[0..len]);
-    let mut output = rt.stdout();
-    output.write_all(report.as_bytes())
+    let mut text = Vec::new(rt.alloc());
+    rt.stdin().take(INPUT_LIMIT).read_to_end(&mut text)?;
+    let report = digest_report(&Sha256, text.as_slice());
+    rt.stdout().write_all(report.as_bytes())
 }

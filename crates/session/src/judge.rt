@@ -1,7 +1,7 @@
 // The checks of a call against the records and the state.
 ghost use Rattle.std.specs.Prelude.{◌≡◌, not, map, None, ◌==◌};
 ghost use Rattle.std.specs.Option.{option_map};
-ghost use Rattle.interfaces.specs.declared.code.Code.TheVariants.{Value, Range};
+ghost use Rattle.interfaces.specs.declared.code.Code.TheVariants.{Value, Range, PcrChanged};
 ghost use Rattle.interfaces.specs.Checks.{first, refused_with, unless};
 ghost use Rattle.interfaces.specs.Faults.{call_refusal};
 ghost use Rattle.interfaces.specs.Hashing.{digest_length};
@@ -14,6 +14,7 @@ ghost use Rattle.session.specs.Steps.{among, common_set, count_flaw, record_flaw
 ghost use Rattle.session.specs.Views.{progress_of};
 
 use crate::progress::Progress;
+use crate::setting::Setting;
 use calls::call::Call;
 use conditions::meet::meet;
 use interfaces::code::Code;
@@ -22,34 +23,12 @@ use interfaces::fault::Refusal;
 use interfaces::hash::Hash;
 use interfaces::state::ReaderState;
 use policy::assertion::Assertion;
-use text::word::same;
 
 // The bits common with the recorded set, or the set itself where none is recorded.
 pub(crate) fn common_set(recorded: Option<u8>, set: u8) -> u8
     ensures { result ≡ common_set recorded set }
 {
-    match recorded {
-        Some(old) => old & set,
-        None => set,
-    }
-}
-
-fn is_same_command(recorded: Option<u32>, code: u32) -> bool
-    ensures { result ≡ same_record recorded code }
-{
-    match recorded {
-        Some(old) => old == code,
-        None => true,
-    }
-}
-
-fn is_same_count(recorded: Option<u64>, count: u64) -> bool
-    ensures { result ≡ same_record recorded count }
-{
-    match recorded {
-        Some(old) => old == count,
-        None => true,
-    }
+    recorded.map_or(set, |old| old & set)
 }
 
 fn judge_set(recorded: Option<u8>, set: u8) -> Result<(), Code>
@@ -64,101 +43,82 @@ fn judge_set(recorded: Option<u8>, set: u8) -> Result<(), Code>
 fn judge_command(recorded: Option<u32>, code: u32) -> Result<(), Code>
     ensures { result ≡ refused_with (unless (same_record recorded code) Value) tt }
 {
-    if !is_same_command(recorded, code) {
+    if recorded.is_some_and(|old| old != code) {
         return Err(Code::Value);
     }
     Ok(())
 }
 
-fn judge_records(progress: &Progress, call: &Call) -> Result<(), Code>
-    ensures { result ≡ refused_with (record_flaw (progress_of progress.now) (call_of call.now)) tt }
+fn judge_count(recorded: Option<u64>, count: u64) -> Result<(), Code>
+    ensures { result ≡ refused_with (unless (same_record recorded count) PcrChanged) tt }
 {
-    match call {
-        Call::Assert(Assertion::Locality(set)) => judge_set(progress.localities, *set),
-        Call::Assert(Assertion::Command(code)) => judge_command(progress.command, *code),
-        _ => Ok(()),
-    }
-}
-
-fn contains(digests: &[Digest], digest: &Digest) -> bool
-    ensures { result ≡ among digest.now.bytes (map digest_bytes digests.now) }
-{
-    for other in digests {
-        if same(&other.bytes, &digest.bytes) {
-            return true;
-        }
-    }
-    false
-}
-
-fn judge_count(progress: &Progress, count: u64, assertion: &Assertion) -> Result<(), Code>
-    ensures { result ≡ refused_with (count_flaw (progress_of progress.now) count (assertion_of assertion.now)) tt }
-{
-    match assertion {
-        Assertion::Pcr(_, _) => {
-            if is_same_count(progress.count, count) {
-                Ok(())
-            } else {
-                Err(Code::PcrChanged)
-            }
-        }
-        _ => Ok(()),
-    }
-}
-
-fn judge_digest(progress: &Progress, digests: &[Digest]) -> Result<(), Refusal>
-    ensures { result ≡ refused_by (option_map call_refusal (unless (among (progress_of progress.now).digest (map digest_bytes digests.now)) Value)) tt }
-{
-    if !contains(digests, &progress.digest) {
-        return Err(Refusal::call(Code::Value));
+    if recorded.is_some_and(|old| old != count) {
+        return Err(Code::PcrChanged);
     }
     Ok(())
 }
 
-fn judge_assertion<H: Hash, S: ReaderState>(
-    hash: &H,
-    state: &S,
-    progress: &Progress,
-    assertion: &Assertion,
-) -> Result<(), Refusal>
-    ensures { result ≡ refused_by (first (option_map call_refusal (count_flaw (progress_of progress.now) (S.observed state.now).count (assertion_of assertion.now))) (unmet (H.meaning hash.now) (S.observed state.now) (assertion_of assertion.now))) tt }
-{
-    if let Err(code) = judge_count(progress, state.change_count(), assertion) {
-        return Err(Refusal::call(code));
+impl Progress {
+    fn judge_records(&self, call: &Call) -> Result<(), Code>
+        ensures { result ≡ refused_with (record_flaw (progress_of self.now) (call_of call.now)) tt }
+    {
+        match call {
+            Call::Assert(Assertion::Locality(set)) => judge_set(self.localities, *set),
+            Call::Assert(Assertion::Command(code)) => judge_command(self.command, *code),
+            _ => Ok(()),
+        }
     }
-    meet(hash, state, assertion)
+
+    fn judge_assertion(&self, count: u64, assertion: &Assertion) -> Result<(), Code>
+        ensures { result ≡ refused_with (count_flaw (progress_of self.now) count (assertion_of assertion.now)) tt }
+    {
+        match assertion {
+            Assertion::Pcr(_, _) => judge_count(self.count, count),
+            _ => Ok(()),
+        }
+    }
+
+    fn judge_digest(&self, digests: &[Digest]) -> Result<(), Code>
+        ensures { result ≡ refused_with (unless (among (progress_of self.now).digest (map digest_bytes digests.now)) Value) tt }
+    {
+        if !digests.contains(&self.digest) {
+            return Err(Code::Value);
+        }
+        Ok(())
+    }
 }
 
-fn judge_state<H: Hash, S: ReaderState>(
-    hash: &H,
-    state: &S,
-    progress: &Progress,
-    call: &Call,
-) -> Result<(), Refusal>
-    ensures { result ≡ refused_by (state_flaw (H.meaning hash.now) (S.observed state.now) (progress_of progress.now) (call_of call.now)) tt }
-{
-    match call {
-        Call::Assert(assertion) => judge_assertion(hash, state, progress, assertion),
-        Call::Or(digests) => judge_digest(progress, digests.as_slice()),
+impl<H: Hash, S: ReaderState> Setting<'_, H, S> {
+    fn judge_assertion(&self, progress: &Progress, assertion: &Assertion) -> Result<(), Refusal>
+        ensures { result ≡ refused_by (first (option_map call_refusal (count_flaw (progress_of progress.now) (S.observed self.now.state.now).count (assertion_of assertion.now))) (unmet (H.meaning self.now.hash.now) (S.observed self.now.state.now) (assertion_of assertion.now))) tt }
+    {
+        let count = self.state.change_count();
+        progress
+            .judge_assertion(count, assertion)
+            .map_err(Refusal::call)?;
+        meet(self.hash, self.state, assertion)
     }
-}
 
-// The first refusal of a call whose fields have passed their checks.
-pub(crate) fn judge<H: Hash, S: ReaderState>(
-    hash: &H,
-    state: &S,
-    checked: bool,
-    progress: &Progress,
-    call: &Call,
-) -> Result<(), Refusal>
-    requires { call_flaw digest_length (call_of call.now) ≡ None }
-    ensures { result ≡ refused_by (refusal checked (H.meaning hash.now) (S.observed state.now) (progress_of progress.now) (call_of call.now)) tt }
-{
-    if let Err(code) = judge_records(progress, call) {
-        return Err(Refusal::call(code));
+    fn judge_state(&self, progress: &Progress, call: &Call) -> Result<(), Refusal>
+        ensures { result ≡ refused_by (state_flaw (H.meaning self.now.hash.now) (S.observed self.now.state.now) (progress_of progress.now) (call_of call.now)) tt }
+    {
+        match call {
+            Call::Assert(assertion) => self.judge_assertion(progress, assertion),
+            Call::Or(digests) => progress
+                .judge_digest(digests.as_slice())
+                .map_err(Refusal::call),
+        }
     }
-    if !checked {
-        return Ok(());
+
+    // The first refusal of a call whose fields have passed their checks.
+    pub(crate) fn judge(&self, progress: &Progress, call: &Call) -> Result<(), Refusal>
+        requires { call_flaw digest_length (call_of call.now) ≡ None }
+        ensures { result ≡ refused_by (refusal self.now.checked (H.meaning self.now.hash.now) (S.observed self.now.state.now) (progress_of progress.now) (call_of call.now)) tt }
+    {
+        progress.judge_records(call).map_err(Refusal::call)?;
+        if !self.checked {
+            return Ok(());
+        }
+        self.judge_state(progress, call)
     }
-    judge_state(hash, state, progress, call)
 }

@@ -9,4 +9,5 @@ pub mod progress;
 mod record;
 mod run;
 pub mod session;
+mod setting;
 mod step;

@@ -2,6 +2,7 @@
 ghost use Rattle.std.specs.Prelude.{◌≡◌, true, [], length};
 ghost use Rattle.interfaces.specs.Checks.{done, left_in};
 ghost use Rattle.session.specs.Events.{Follows, progress_after, restarted};
+ghost use Rattle.session.specs.Kept.{Kept};
 ghost use Rattle.session.specs.Steps.{fresh};
 ghost use Rattle.session.specs.Reading.{read_digest};
 ghost use Rattle.session.specs.Views.{progress_of};
@@ -15,17 +16,33 @@ use interfaces::digest::DIGEST_LENGTH;
 use interfaces::hash::Hash;
 use policy::extend::zero_digest;
 
-// The zero digest and no records.
-fn fresh_progress<H: Hash>(hash: &H) -> Progress
-    ensures { progress_of result ≡ fresh (H.meaning hash.now) }
-{
-    Progress {
-        digest: zero_digest(hash),
-        count: None,
-        command: None,
-        localities: None,
-        presence: false,
-        password: false,
+impl Progress {
+    // The zero digest and no records.
+    fn fresh<H: Hash>(hash: &H) -> Progress
+        ensures { progress_of result ≡ fresh (H.meaning hash.now) }
+    {
+        Progress {
+            digest: zero_digest(hash),
+            count: None,
+            command: None,
+            localities: None,
+            presence: false,
+            password: false,
+        }
+    }
+}
+
+impl<H: Hash, K> Session<H, K> {
+    fn fresh(hash: H, kind: K) -> Session<H, K>
+        ensures fresh { progress_of result.progress ≡ fresh (H.meaning hash) }
+        ensures hash { result.hash ≡ hash }
+    {
+        let progress = Progress::fresh(&hash);
+        Session {
+            hash,
+            kind,
+            progress,
+        }
     }
 }
 
@@ -36,12 +53,7 @@ impl<H: Hash> Session<H, Policy> {
         ensures history { progress_after true (H.meaning hash) [] ≡ progress_of result.progress }
         ensures hash { result.hash ≡ hash }
     {
-        let progress = fresh_progress(&hash);
-        Session {
-            hash,
-            kind: Policy,
-            progress,
-        }
+        Session::fresh(hash, Policy)
     }
 }
 
@@ -51,12 +63,7 @@ impl<H: Hash> Session<H, Trial> {
         ensures fresh { progress_of result.progress ≡ fresh (H.meaning hash) }
         ensures hash { result.hash ≡ hash }
     {
-        let progress = fresh_progress(&hash);
-        Session {
-            hash,
-            kind: Trial,
-            progress,
-        }
+        Session::fresh(hash, Trial)
     }
 }
 
@@ -65,10 +72,9 @@ impl<H: Hash, K: Kind> Session<H, K> {
     pub fn restart(&mut self)
         ensures after { progress_of self.new.progress ≡ fresh (H.meaning self.old.hash) }
         ensures follows { Follows (K.checked self.old.kind) (H.meaning self.old.hash) (progress_of self.old.progress) restarted (progress_of self.new.progress) }
-        ensures hash { self.new.hash ≡ self.old.hash }
-        ensures kind { self.new.kind ≡ self.old.kind }
+        ensures kept { Kept self.old self.new }
     {
-        self.progress = fresh_progress(&self.hash);
+        self.progress = Progress::fresh(&self.hash);
     }
 
     // The digest and the records.

@@ -7,6 +7,7 @@ ghost use Rattle.session.specs.Views.{progress_of};
 
 use crate::judge::common_set;
 use crate::progress::Progress;
+use crate::setting::Setting;
 use calls::call::Call;
 use interfaces::digest::Digest;
 use interfaces::hash::Hash;
@@ -14,59 +15,53 @@ use interfaces::state::ReaderState;
 use policy::assertion::Assertion;
 use policy::extend::{extend_digest, join_digests};
 
-// What an accepted assertion records, where the state's change count is `current`.
-fn with_record(progress: Progress, checked: bool, current: u64, assertion: &Assertion) -> Progress
-    ensures { progress_of result ≡ recorded checked current (assertion_of assertion.now) (progress_of progress) }
-{
-    let mut next = progress;
-    match assertion {
-        Assertion::Pcr(_, _) => {
-            if checked {
-                next.count = Some(current);
+impl Progress {
+    // What an accepted assertion records, where the state's change count is `current`.
+    fn with_record(self, checked: bool, current: u64, assertion: &Assertion) -> Progress
+        ensures { progress_of result ≡ recorded checked current (assertion_of assertion.now) (progress_of self) }
+    {
+        let mut next = self;
+        match assertion {
+            Assertion::Pcr(_, _) => {
+                if checked {
+                    next.count = Some(current);
+                }
             }
+            Assertion::Nv(_, _) => {}
+            Assertion::Time(_) => {}
+            Assertion::Locality(set) => next.localities = Some(common_set(self.localities, *set)),
+            Assertion::Command(code) => next.command = Some(*code),
+            Assertion::Presence => next.presence = true,
+            Assertion::Password => next.password = true,
         }
-        Assertion::Nv(_, _) => {}
-        Assertion::Time(_) => {}
-        Assertion::Locality(set) => next.localities = Some(common_set(progress.localities, *set)),
-        Assertion::Command(code) => next.command = Some(*code),
-        Assertion::Presence => next.presence = true,
-        Assertion::Password => next.password = true,
+        next
     }
-    next
+
+    fn with_digest(self, digest: Digest) -> Progress
+        ensures { progress_of result ≡ with_digest (progress_of self) digest.bytes }
+    {
+        Progress { digest, ..self }
+    }
 }
 
-fn with_digest(progress: &Progress, digest: Digest) -> Progress
-    ensures { progress_of result ≡ with_digest (progress_of progress.now) digest.bytes }
-{
-    let mut next = *progress;
-    next.digest = digest;
-    next
-}
-
-// The session after an accepted call.
-pub(crate) fn next_progress<H: Hash, S: ReaderState>(
-    hash: &H,
-    state: &S,
-    checked: bool,
-    progress: &Progress,
-    call: &Call,
-) -> Progress
-    ensures { progress_of result ≡ after checked (H.meaning hash.now) (S.observed state.now) (progress_of progress.now) (call_of call.now) }
-{
-    match call {
-        Call::Assert(assertion) => {
-            let digest = extend_digest(hash, &progress.digest, assertion);
-            with_record(
-                with_digest(progress, digest),
-                checked,
-                state.change_count(),
-                assertion,
-            )
-        }
-        Call::Or(digests) => {
-            // An `or` has two to eight digests, so that joining them always succeeds.
-            let digest = join_digests(hash, digests.as_slice()).unwrap();
-            with_digest(progress, digest)
+impl<H: Hash, S: ReaderState> Setting<'_, H, S> {
+    // The session after an accepted call.
+    pub(crate) fn next(&self, progress: &Progress, call: &Call) -> Progress
+        ensures { progress_of result ≡ after self.now.checked (H.meaning self.now.hash.now) (S.observed self.now.state.now) (progress_of progress.now) (call_of call.now) }
+    {
+        match call {
+            Call::Assert(assertion) => {
+                let digest = extend_digest(self.hash, &progress.digest, assertion);
+                let count = self.state.change_count();
+                progress
+                    .with_digest(digest)
+                    .with_record(self.checked, count, assertion)
+            }
+            Call::Or(digests) => {
+                // An `or` has two to eight digests, so that joining them always succeeds.
+                let digest = join_digests(self.hash, digests.as_slice()).unwrap();
+                progress.with_digest(digest)
+            }
         }
     }
 }

@@ -3,13 +3,12 @@ ghost use Rattle.std.specs.Prelude.{◌≡◌, ◌≤◌, length};
 ghost use Rattle.policy.specs.Reading.{refused_by};
 ghost use Rattle.text.specs.Cut.{lines as text_lines};
 ghost use Rattle.tree.specs.Texts.{line_limit};
-ghost use Rattle.session.specs.Events.{Ran};
+ghost use Rattle.session.specs.Kept.{Kept, Runs};
 ghost use Rattle.session.specs.Runs.{line_after, line_refusal, lines_after, lines_answer};
 ghost use Rattle.session.specs.Views.{progress_of};
 
 use crate::kind::Kind;
 use crate::session::Session;
-use crate::step::step;
 use calls::line::read_call;
 use interfaces::code::Code;
 use interfaces::fault::{Fault, Refusal};
@@ -23,24 +22,17 @@ impl<H: Hash, K: Kind> Session<H, K> {
     fn run_line<S: ReaderState>(&mut self, state: &S, line: &[u8]) -> Result<(), Refusal>
         ensures answer { result ≡ refused_by (line_refusal (K.checked self.old.kind) (H.meaning self.old.hash) (S.observed state.now) (progress_of self.old.progress) line.now) tt }
         ensures after { progress_of self.new.progress ≡ line_after (K.checked self.old.kind) (H.meaning self.old.hash) (S.observed state.now) (progress_of self.old.progress) line.now }
-        ensures hash { self.new.hash ≡ self.old.hash }
-        ensures kind { self.new.kind ≡ self.old.kind }
+        ensures kept { Kept self.old self.new }
     {
-        match read_call(line) {
-            Ok(call) => {
-                let checked = self.kind.is_checked();
-                step(&self.hash, state, checked, &mut self.progress, &call)
-            }
-            Err(refusal) => Err(refusal),
-        }
+        let call = read_call(line)?;
+        self.step(state, &call)
     }
 
     fn run_lines<S: ReaderState>(&mut self, state: &S, text: &[u8]) -> Result<usize, Fault>
         requires { length (text_lines text.now) ≤ line_limit }
         ensures answer { result ≡ lines_answer (K.checked self.old.kind) (H.meaning self.old.hash) (S.observed state.now) 0 (text_lines text.now) (progress_of self.old.progress) }
         ensures after { progress_of self.new.progress ≡ lines_after (K.checked self.old.kind) (H.meaning self.old.hash) (S.observed state.now) (text_lines text.now) (progress_of self.old.progress) }
-        ensures hash { self.new.hash ≡ self.old.hash }
-        ensures kind { self.new.kind ≡ self.old.kind }
+        ensures kept { Kept self.old self.new }
     {
         let mut count = 0;
         let mut rest = text;
@@ -57,9 +49,7 @@ impl<H: Hash, K: Kind> Session<H, K> {
     // Runs a text of up to 64 calls, which may be empty: answers their number, or the first fault, before
     // which the earlier lines stand.
     pub fn run<S: ReaderState>(&mut self, state: &S, text: &[u8]) -> Result<usize, Fault>
-        ensures ran { Ran (K.checked self.old.kind) (H.meaning self.old.hash) (S.observed state.now) (progress_of self.old.progress) text.now result (progress_of self.new.progress) }
-        ensures hash { self.new.hash ≡ self.old.hash }
-        ensures kind { self.new.kind ≡ self.old.kind }
+        ensures { Runs K.checked H.meaning (S.observed state.now) self.old text.now result self.new }
     {
         if text.len() > TEXT_LIMIT || count_lines(text) > LINE_LIMIT {
             return Err(Refusal::text(Code::Size).at(0));

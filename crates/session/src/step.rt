@@ -4,31 +4,45 @@ ghost use Rattle.interfaces.specs.Hashing.{digest_length};
 ghost use Rattle.policy.specs.Reading.{refused_by};
 ghost use Rattle.calls.specs.Calls.{call_flaw};
 ghost use Rattle.calls.specs.Views.{call_of};
+ghost use Rattle.session.specs.Kept.{Kept};
 ghost use Rattle.session.specs.Steps.{refusal, stepped};
 ghost use Rattle.session.specs.Views.{progress_of};
 
-use crate::judge::judge;
+use crate::kind::Kind;
 use crate::progress::Progress;
-use crate::record::next_progress;
+use crate::session::Session;
+use crate::setting::Setting;
 use calls::call::Call;
 use interfaces::fault::Refusal;
 use interfaces::hash::Hash;
 use interfaces::state::ReaderState;
 
-// Makes a call whose fields have passed their checks; refused, it changes nothing.
-pub(crate) fn step<H: Hash, S: ReaderState>(
-    hash: &H,
-    state: &S,
-    checked: bool,
-    progress: &mut Progress,
-    call: &Call,
-) -> Result<(), Refusal>
-    requires { call_flaw digest_length (call_of call.now) ≡ None }
-    ensures answer { result ≡ refused_by (refusal checked (H.meaning hash.now) (S.observed state.now) (progress_of progress.old) (call_of call.now)) tt }
-    ensures after { progress_of progress.new ≡ stepped checked (H.meaning hash.now) (S.observed state.now) (progress_of progress.old) (call_of call.now) }
-{
-    judge(hash, state, checked, progress, call)?;
-    let next = next_progress(hash, state, checked, progress, call);
-    *progress = next;
-    Ok(())
+impl<H: Hash, S: ReaderState> Setting<'_, H, S> {
+    // Makes a call whose fields have passed their checks; refused, it changes nothing.
+    fn step(&self, progress: &mut Progress, call: &Call) -> Result<(), Refusal>
+        requires { call_flaw digest_length (call_of call.now) ≡ None }
+        ensures answer { result ≡ refused_by (refusal self.now.checked (H.meaning self.now.hash.now) (S.observed self.now.state.now) (progress_of progress.old) (call_of call.now)) tt }
+        ensures after { progress_of progress.new ≡ stepped self.now.checked (H.meaning self.now.hash.now) (S.observed self.now.state.now) (progress_of progress.old) (call_of call.now) }
+    {
+        self.judge(progress, call)?;
+        *progress = self.next(progress, call);
+        Ok(())
+    }
+}
+
+impl<H: Hash, K: Kind> Session<H, K> {
+    // The same on a session of either kind.
+    pub(crate) fn step<S: ReaderState>(&mut self, state: &S, call: &Call) -> Result<(), Refusal>
+        requires { call_flaw digest_length (call_of call.now) ≡ None }
+        ensures answer { result ≡ refused_by (refusal (K.checked self.old.kind) (H.meaning self.old.hash) (S.observed state.now) (progress_of self.old.progress) (call_of call.now)) tt }
+        ensures after { progress_of self.new.progress ≡ stepped (K.checked self.old.kind) (H.meaning self.old.hash) (S.observed state.now) (progress_of self.old.progress) (call_of call.now) }
+        ensures kept { Kept self.old self.new }
+    {
+        let setting = Setting {
+            hash: &self.hash,
+            state,
+            checked: self.kind.is_checked(),
+        };
+        setting.step(&mut self.progress, call)
+    }
 }

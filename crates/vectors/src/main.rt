@@ -1,10 +1,9 @@
 // Prints the digests of known messages by each hash, to be held to what another implementation says.
 #![tactic(auto)]
 
-ghost use Rattle.std.specs.Prelude.{◌≡◌, ℕ, ◌+◌, ◌*◌, ◌%◌, ◌<◌, ◌≤◌, length, IfOk, slice_index};
+ghost use Rattle.std.specs.Prelude.{◌≡◌, ℕ, ◌+◌, ◌*◌, ◌%◌, ◌<◌, ◌≤◌, length, slice_index};
 
 use anyhow::anyhow;
-use interfaces::code::Code;
 use interfaces::digest::Digest;
 use interfaces::hash::Hash;
 use sha3::Sha3;
@@ -31,22 +30,14 @@ impl fmt::Display for Hex {
     }
 }
 
-fn digest_of<H: Hash>(hash: &H, text: &[u8]) -> Result<Digest, Code>
-    ensures { IfOk result (λ d. d.bytes ≡ (H.Hash.meaning hash.now).digest text.now) }
-{
-    let mut digest = Digest::zero();
-    hash.hash(text, &mut digest.bytes)?;
-    Ok(digest)
-}
-
 // Fills `text` with bytes that tell it from the texts of the other lengths.
 fn fill(text: &mut [u8])
     requires { length text.old ≤ 273 }
     ensures { (k : ℕ) → k < length text.new → slice_index text.new k ≡ (k * 7 + length text.old) % 251 }
 {
     let n = text.len();
-    for i in 0..n {
-        text[i] = ((i * FACTOR + n) % MODULUS) as u8;
+    for (i, byte) in text.iter_mut().enumerate() {
+        *byte = ((i * FACTOR + n) % MODULUS) as u8;
     }
 }
 
@@ -57,9 +48,7 @@ fn print_digest<H: Hash>(
     label: impl fmt::Display + Drop,
     text: &[u8],
 ) -> anyhow::Result<()> {
-    let Ok(digest) = digest_of(hash, text) else {
-        return Err(anyhow!("refused"));
-    };
+    let digest = Digest::of(hash, text).map_err(|_| anyhow!("refused"))?;
     let hex = Hex(digest);
     println!(rt; "{name} {label}\t{hex}")?;
     Ok(())
