@@ -1,6 +1,6 @@
-pub mod Counts
-pub mod Decoding
+pub mod Extensions
 pub mod Joins
 pub mod ReadsFields
 pub mod ReadsLines
 pub mod ReadsWords
+pub mod Words

@@ -1,6 +1,6 @@
 -- The checks of an assertion's own fields, which are made wherever one is read or called, in their
 -- order.
-use Rattle.std.specs.Prelude.{ℕ, ◌&&◌, length, None, Option, ◌==◌, nat_le}
+use Rattle.std.specs.Prelude.{ℕ, ◌&&◌, List, length, None, Option, ◌==◌, nat_le}
 use Rattle.interfaces.specs.declared.code.Code.{Code}
 use Rattle.interfaces.specs.declared.code.Code.TheVariants.{Size, Value, Range}
 pub use Rattle.interfaces.specs.Checks.{first, unless}
@@ -19,8 +19,14 @@ last_operation = 11
 abbrev pub all_localities : ℕ
 all_localities = 0x1f
 
+abbrev pub operand_flaw : List ℕ → Option Code
+operand_flaw operand = unless (nat_le 1 (length operand) && nat_le (length operand) operand_limit) Size
+
+abbrev pub operation_flaw : ℕ → Option Code
+operation_flaw n = unless (nat_le n last_operation) Value
+
 abbrev pub comparison_flaw : Comparison → Option Code
-comparison_flaw c = first (unless (nat_le 1 (length c.operand) && nat_le (length c.operand) operand_limit) Size) (unless (nat_le c.operation last_operation) Value)
+comparison_flaw c = first (operand_flaw c.operand) (operation_flaw c.operation)
 
 -- The first refusal of an assertion's fields, where digests have `size` bytes.
 abbrev pub flaw : ℕ → Assertion → Option Code

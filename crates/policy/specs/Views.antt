@@ -1,8 +1,10 @@
 -- What the code's values mean.
-use Rattle.std.specs.Prelude.{ℕ, List, take}
+use Rattle.std.specs.Prelude.{ℕ, List}
 pub use Rattle.interfaces.specs.Checks.{meant}
-use Rattle.interfaces.specs.declared.digest.Digest.{Digest}
+pub use Rattle.interfaces.specs.Views.{digest_bytes}
+use Rattle.arrays.specs.Items.{items}
 use Rattle.policy.specs.declared.operand.Operand.{Operand}
+use Rattle.policy.specs.declared.assertion.GivenComparison.{GivenComparison}
 use Rattle.policy.specs.declared.assertion.Comparison as code
 use Rattle.policy.specs.declared.assertion.Assertion as code-assertion
 use Rattle.policy.specs.declared.assertion.Assertion.TheVariants.{Pcr, Nv, Time, Locality, Command, Presence, Password}
@@ -12,12 +14,12 @@ use Rattle.policy.specs.Assertions.{Comparison, Assertion, pcr, nv, time, locali
 use Rattle.policy.specs.Lines.{Line, start, any, extend}
 use Rattle.policy.specs.Operations.{operation_number}
 
-abbrev pub digest_bytes : Digest → List ℕ
-digest_bytes d = d.bytes
-
--- An operand's bytes; what lies behind its length means nothing.
 abbrev pub operand_bytes : Operand → List ℕ
-operand_bytes o = take o.len o.bytes
+operand_bytes o = items o.bytes
+
+-- A comparison as it is given.
+abbrev pub given_of : GivenComparison → Comparison
+given_of g = record { operand = g.operand.now; offset = g.offset; operation = g.operation }
 
 abbrev pub comparison_of : code.Comparison → Comparison
 comparison_of c = record { operand = operand_bytes c.operand; offset = c.offset; operation = operation_number c.operation }

@@ -1,21 +1,33 @@
 // The fields of a comparison that have their form, and the comparison that they make if they pass
 // their checks.
-ghost use Rattle.std.specs.Prelude.{◌≡◌, ◌≤◌, IfSome, Some};
+ghost use Rattle.std.specs.Prelude.{◌≡◌, IfSome};
 ghost use Rattle.std.specs.Option.{option_map};
 ghost use Rattle.interfaces.specs.Checks.{meant};
-ghost use Rattle.text.specs.Pairs.{unpaired};
-ghost use Rattle.policy.specs.ComparisonFields.{fields_of, Counted, Stands};
+ghost use Rattle.policy.specs.ComparisonFields.{fields_of, Counted};
 ghost use Rattle.policy.specs.Judging.{judged_comparison};
 ghost use Rattle.policy.specs.Reading.{parse_comparison};
-ghost use Rattle.policy.specs.Views.{comparison_of, operand_bytes};
+ghost use Rattle.policy.specs.Views.{comparison_of, given_of};
 
-use crate::assertion::Comparison;
-use crate::operand::{OPERAND_LIMIT, Operand};
-use crate::operation::Operation;
+use crate::assertion::{Comparison, GivenComparison};
+use crate::operand::OPERAND_LIMIT;
 use interfaces::code::Code;
 use text::number::read_number;
 use text::pairs::{pair_count, unpair};
-use text::write::put;
+
+// The first flaw of a comparison as given is refused.
+impl TryFrom<GivenComparison<'_>> for Comparison {
+    type Error = Code;
+
+    ghost try_from_gives = { λ given r. meant comparison_of r ≡ judged_comparison (given_of given) };
+
+    fn try_from(given: GivenComparison<'_>) -> Result<Comparison, Code> {
+        Ok(Comparison {
+            operand: given.operand.try_into()?,
+            offset: given.offset,
+            operation: given.operation.try_into()?,
+        })
+    }
+}
 
 #[derive(Clone, Copy)]
 pub(crate) struct ComparisonFields<'a> {
@@ -45,63 +57,22 @@ pub(crate) fn comparison_fields<'a>(
     })
 }
 
-fn read_operand(field: &[u8], len: usize) -> Operand
-    requires some { 1 ≤ len }
-    requires within { len ≤ 64 }
-    requires stands { Stands field.now len }
-    ensures { unpaired field.now ≡ Some (operand_bytes result) }
-{
-    let mut bytes = [0; OPERAND_LIMIT];
-    unpair(field, &mut bytes[0..len]);
-    Operand { bytes, len }
-}
-
-impl Operand {
-    pub fn as_slice(&self) -> &[u8]
-        ensures { result.now ≡ operand_bytes self.now }
-    {
-        &self.bytes[0..self.len]
-    }
-}
-
-impl Comparison {
-    // A comparison of fields that are judged first.
-    pub fn new(operand: &[u8], offset: u16, operation: u16) -> Result<Comparison, Code>
-        ensures { meant comparison_of result ≡ judged_comparison (record { operand = operand.entry.now; offset = offset; operation = operation }) }
-    {
-        let len = operand.len();
-        if len < 1 || len > OPERAND_LIMIT {
-            return Err(Code::Size);
-        }
-        let Some(operation) = Operation::from_number(operation) else {
-            return Err(Code::Value);
-        };
-        let mut bytes = [0; OPERAND_LIMIT];
-        put(&mut bytes, 0, operand).unwrap();
-        Ok(Comparison {
-            operand: Operand { bytes, len },
-            offset,
-            operation,
-        })
-    }
-}
-
 impl ComparisonFields<'_> {
     pub(crate) fn judge(self) -> Result<Comparison, Code>
         requires { Counted self }
         ensures { meant comparison_of result ≡ judged_comparison (fields_of self.entry) }
     {
-        if self.len < 1 || self.len > OPERAND_LIMIT {
+        let mut bytes = [0; OPERAND_LIMIT];
+        if self.len > bytes.len() {
             return Err(Code::Size);
         }
-        let Some(operation) = Operation::from_number(self.operation) else {
-            return Err(Code::Value);
-        };
-        let operand = read_operand(self.operand, self.len);
-        Ok(Comparison {
+        let operand = &mut bytes[..self.len];
+        unpair(self.operand, operand);
+        let given = GivenComparison {
             operand,
             offset: self.offset,
-            operation,
-        })
+            operation: self.operation,
+        };
+        given.try_into()
     }
 }

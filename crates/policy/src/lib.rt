@@ -5,7 +5,6 @@ pub mod assertion;
 pub mod commands;
 mod compare;
 pub mod extend;
-mod fields;
 pub mod line;
 pub mod operand;
 pub mod operation;

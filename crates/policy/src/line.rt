@@ -10,13 +10,11 @@ ghost use Rattle.policy.specs.Reading.{parse_any, parse_assertion, parse_start, 
 ghost use Rattle.policy.specs.Views.{line_of};
 
 use crate::assertion::Assertion;
-use crate::fields::{no_field, one_field};
 use crate::read::read_assertion;
 use interfaces::code::Code;
 use interfaces::fault::Refusal;
-use text::cut::first_field;
+use text::cut::{Fields, first_field};
 use text::number::read_number;
-use text::word::same;
 
 // The fewest and the most trees that `any` joins.
 pub const FEWEST_TREES: usize = 2;
@@ -36,47 +34,33 @@ pub enum Line {
 fn read_start(rest: Option<&[u8]>) -> Result<Line, Refusal>
     ensures { meant line_of result ≡ read_line_as parse_start (further (option_map (λ x. x.now) rest.entry)) }
 {
-    if no_field(rest) {
-        Ok(Line::Start)
-    } else {
-        Err(Refusal::form())
+    match Fields::new(rest).next() {
+        None => Ok(Line::Start),
+        Some(_) => Err(Refusal::form()),
     }
 }
 
 fn read_any(rest: Option<&[u8]>) -> Result<Line, Refusal>
     ensures { meant line_of result ≡ read_line_as parse_any (further (option_map (λ x. x.now) rest.entry)) }
 {
-    let Some(field) = one_field(rest) else {
+    let mut fields = Fields::new(rest);
+    let (Some(field), None) = (fields.next(), fields.next()) else {
         return Err(Refusal::form());
     };
-    let Some(number) = read_number(field) else {
-        return Err(Refusal::form());
-    };
-    let trees = number as usize;
+    let trees = read_number(field).ok_or(Refusal::form())? as usize;
     if trees < FEWEST_TREES || trees > MOST_TREES {
         return Err(Refusal::text(Code::Size));
     }
     Ok(Line::Any(trees))
 }
 
-fn read_extension(word: &[u8], rest: Option<&[u8]>) -> Result<Line, Refusal>
-    ensures { meant line_of result ≡ read_line_as (λ fs. option_map extend (parse_assertion word.now fs)) (further (option_map (λ x. x.now) rest.entry)) }
-{
-    match read_assertion(word, rest) {
-        Ok(assertion) => Ok(Line::Extend(assertion)),
-        Err(refusal) => Err(refusal),
-    }
-}
-
 fn read_word(word: &[u8], rest: Option<&[u8]>) -> Result<Line, Refusal>
     ensures { meant line_of result ≡ read_line_as (parse_word word.now) (further (option_map (λ x. x.now) rest.entry)) }
 {
-    if same(word, b"start") {
-        read_start(rest)
-    } else if same(word, b"any") {
-        read_any(rest)
-    } else {
-        read_extension(word, rest)
+    match word {
+        b"start" => read_start(rest),
+        b"any" => read_any(rest),
+        _ => Ok(Line::Extend(read_assertion(word, rest)?)),
     }
 }
 

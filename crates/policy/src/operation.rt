@@ -1,10 +1,12 @@
 // The twelve operations of a comparison, numbered as TPM 2.0 does.
-ghost use Rattle.std.specs.Prelude.{◌≡◌, if◌then◌else◌, Some, None, nat_le};
-ghost use Rattle.std.specs.Option.{option_map};
-ghost use Rattle.policy.specs.Checks.{last_operation};
+ghost use Rattle.std.specs.Prelude.{◌≡◌};
+ghost use Rattle.interfaces.specs.Checks.{meant, refused_with};
+ghost use Rattle.policy.specs.Checks.{operation_flaw};
 ghost use Rattle.policy.specs.Operations.{operation_number};
 
-#[derive(Clone, Copy)]
+use interfaces::code::Code;
+
+#[derive(Clone, Copy, Debug, PartialEq, Eq)]
 pub enum Operation {
     Equal,
     NotEqual,
@@ -20,17 +22,23 @@ pub enum Operation {
     BitsClear,
 }
 
-impl Operation {
-    pub fn number(self) -> u16
-        ensures { result ≡ operation_number self }
-    {
-        self as u16
-    }
+// An operation's number.
+impl From<Operation> for u16 {
+    ghost from_gives = { λ operation n. n ≡ operation_number operation };
 
-    pub fn from_number(n: u16) -> Option<Operation>
-        ensures { option_map operation_number result ≡ (if nat_le n last_operation then Some n else None) }
-    {
-        Some(match n {
+    fn from(operation: Operation) -> u16 {
+        operation as u16
+    }
+}
+
+// A number past the last operation's is refused.
+impl TryFrom<u16> for Operation {
+    type Error = Code;
+
+    ghost try_from_gives = { λ n r. meant operation_number r ≡ refused_with (operation_flaw n) n };
+
+    fn try_from(n: u16) -> Result<Operation, Code> {
+        Ok(match n {
             0 => Operation::Equal,
             1 => Operation::NotEqual,
             2 => Operation::SignedGreater,
@@ -43,7 +51,7 @@ impl Operation {
             9 => Operation::UnsignedLessOrEqual,
             10 => Operation::BitsSet,
             11 => Operation::BitsClear,
-            _ => return None,
+            _ => return Err(Code::Value),
         })
     }
 }
