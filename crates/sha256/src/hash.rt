@@ -8,7 +8,8 @@ ghost use Rattle.sha256.specs.Digests.{sized, bytes};
 
 use crate::compression::Compression;
 use crate::constants::{BLOCK, State, initial};
-use crate::message::{digest, padded};
+use crate::message::{TAIL, digest, pad};
+use arrays::array_vec::ArrayVec;
 use blocks::take_blocks;
 use interfaces::code::Code;
 use interfaces::hash::{Hash, admit};
@@ -41,7 +42,9 @@ fn hash_value(text: &[u8]) -> State
     ensures { result ≡ absorb compress 64 (length (pad text.now) / 64) (pad text.now) H0 }
 {
     let (h, rest) = take_blocks::<Compression, BLOCK>(initial(), text);
-    let tail = padded(rest, text.len());
+    let mut tail: ArrayVec<u8, TAIL> = ArrayVec::new(0);
+    tail.extend(rest).unwrap();
+    pad(&mut tail, text.len());
     let (last, _) = take_blocks::<Compression, BLOCK>(h, tail.as_slice());
     last
 }

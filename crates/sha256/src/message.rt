@@ -19,7 +19,7 @@ const LENGTH_BYTES: usize = 8;
 const BYTE_BITS: u64 = 8;
 
 // The rest of a message, which fills no block, and the padding take two blocks at most.
-const TAIL: usize = 2 * BLOCK;
+pub(crate) const TAIL: usize = 2 * BLOCK;
 
 // The digest: the words of the hash value, the highest byte of each first.
 pub(crate) fn digest(h: State) -> ArrayVec<u8, DIGEST_LENGTH>
@@ -33,25 +33,22 @@ pub(crate) fn digest(h: State) -> ArrayVec<u8, DIGEST_LENGTH>
     digest
 }
 
-#[tactic(auto, unfolding(crate::specs::Sha256::zeros_after))]
 // How many zeros stand between the bit 1 and the length of a message of `n` bytes.
+#[tactic(auto, unfolding(crate::specs::Sha256::zeros_after))]
 fn zeros_after(n: usize) -> usize
     ensures { result ≡ zeros_after n }
 {
     (TAIL - 1 - LENGTH_BYTES - n % BLOCK) % BLOCK
 }
 
+// Puts the padding of a message of `n` bytes behind its rest, which fills no block.
 #[tactic(auto, unfolding(crate::specs::Sha256::zeros_after, crate::specs::Sha256::padding, crate::specs::Sha256::long_bytes))]
-// The rest of a message of `n` bytes, which fills no block, and the padding of the message.
-pub(crate) fn padded(rest: &[u8], n: usize) -> ArrayVec<u8, TAIL>
-    requires { (length rest.now ≡ n % 64) × (n < 2 ^ 61) }
-    ensures { items result ≡ rest.now ++ padding n }
+pub(crate) fn pad(rest: &mut ArrayVec<u8, TAIL>, n: usize)
+    requires { (length (items rest.old) ≡ n % 64) × (n < 2 ^ 61) }
+    ensures { items rest.new ≡ items rest.old ++ padding n }
 {
     let bits = BYTE_BITS * n as u64;
-    let mut tail = ArrayVec::new(0);
-    tail.extend(rest).unwrap();
-    tail.push(PAD_BYTE).unwrap();
-    tail.extend(&ZEROS[..zeros_after(n)]).unwrap();
-    tail.extend(&bits.to_be_bytes()).unwrap();
-    tail
+    rest.push(PAD_BYTE).unwrap();
+    rest.extend(&ZEROS[..zeros_after(n)]).unwrap();
+    rest.extend(&bits.to_be_bytes()).unwrap();
 }
