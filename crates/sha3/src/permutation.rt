@@ -9,8 +9,8 @@ pub(crate) fn keccak_f(start: State) -> State
     ensures { result ≡ keccak_f start }
 {
     let mut s = start;
-    for constant in ROUND_CONSTANTS {
-        let next = round(s, constant);
+    for constant in &ROUND_CONSTANTS {
+        let next = round(s, *constant);
         s = next;
     }
     s

@@ -15,6 +15,8 @@ impl TakeBlock<RATE> for Sponge {
 
     ghost step = { taken };
 
+    // Inlined, so that its callers share one permutation.
+    #[inline(always)]
     fn take_block(s: State, block: &[u8; RATE]) -> State {
         keccak_f(add_lanes(s, block))
     }

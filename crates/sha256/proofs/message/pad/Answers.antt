@@ -1,4 +1,4 @@
-use Rattle.std.proofs.Common.{◌≡◌, ℕ, ◌*◌, ◌%◌, [], ◌∷◌, ◌++◌, take, replicate, arith, rules}
+use Rattle.std.proofs.Common.{◌≡◌, ℕ, ◌*◌, [], ◌∷◌, ◌++◌, take, replicate, arith, rules}
 use Rattle.std.proofs.lemmas.List.{append_assoc, take-replicate}
 use Rattle.arrays.specs.Items.{items}
 use Rattle.sha256.specs.Sha256.{zeros_after, padding, long_bytes}

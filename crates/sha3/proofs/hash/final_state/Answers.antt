@@ -1,4 +1,4 @@
-use Rattle.std.proofs.Common.{◌≡◌, ◌/◌, ◌++◌, length, ap, ◌∙◌, arith}
+use Rattle.std.proofs.Common.{◌/◌, ◌++◌, length, ap, ◌∙◌, arith}
 use Rattle.blocks.proofs.Absorbed.{absorb_one, in_two}
 use Rattle.sha3.specs.Sha3.{padding, pad, taken, S0}
 use Rattle.sha3.proofs.Padded.{blocks_pad, same-padding}
