@@ -34,15 +34,14 @@ pub(crate) fn digest(h: State) -> ArrayVec<u8, DIGEST_LENGTH>
 }
 
 // How many zeros stand between the bit 1 and the length of a message of `n` bytes.
-#[tactic(auto, unfolding(crate::specs::Sha256::zeros_after))]
 fn zeros_after(n: usize) -> usize
-    ensures { result ≡ zeros_after n }
+    ensures value { result ≡ zeros_after n }
+    ensures short { result < 64 }
 {
     (TAIL - 1 - LENGTH_BYTES - n % BLOCK) % BLOCK
 }
 
 // Puts the padding of a message of `n` bytes behind its rest, which fills no block.
-#[tactic(auto, unfolding(crate::specs::Sha256::zeros_after, crate::specs::Sha256::padding, crate::specs::Sha256::long_bytes))]
 pub(crate) fn pad(rest: &mut ArrayVec<u8, TAIL>, n: usize)
     requires { (length (items rest.old) ≡ n % 64) × (n < 2 ^ 61) }
     ensures { items rest.new ≡ items rest.old ++ padding n }

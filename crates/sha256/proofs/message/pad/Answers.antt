@@ -1,8 +1,13 @@
 use Rattle.std.proofs.Common.{◌≡◌, ℕ, ◌*◌, [], ◌∷◌, ◌++◌, take, replicate, arith, rules}
 use Rattle.std.proofs.lemmas.List.{append_assoc, take-replicate}
+use Rattle.std.proofs.lemmas.Grind.{common_steps}
 use Rattle.arrays.specs.Items.{items}
 use Rattle.sha256.specs.Sha256.{zeros_after, padding, long_bytes}
 use Rattle.sha256.proofs.message.pad.Goals as goal
+
+pub unwrap-requires-3 : goal.unwrap-requires-3
+unfolding zeros_after
+unwrap-requires-3 c = grind (arith, common_steps)
 
 pub returns : goal.returns
 unfolding zeros_after padding long_bytes
