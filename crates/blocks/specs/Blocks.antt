@@ -1,11 +1,8 @@
 -- A message, taken in block by block.
-use Rattle.std.specs.Prelude.{ℕ, zero, suc, List, [], ◌∷◌, take, drop, fold}
+use Rattle.std.specs.Prelude.{ℕ, List, fold}
+use Rattle.std.specs.Simd.{first_chunks}
 
--- The first n blocks of a message, each of `size` bytes.
-unfoldable pub cut : ℕ → ℕ → List ℕ → List (List ℕ)
-cut size zero m = []
-cut size (suc n) m = take size m ∷ cut size n (drop size m)
-
--- The state s after the first n blocks of m, where `step` says what a block makes of a state.
-unfoldable pub absorb : (List ℕ → List ℕ → List ℕ) → ℕ → ℕ → List ℕ → List ℕ → List ℕ
-absorb step size n m s = fold step s (cut size n m)
+-- The state s after the first n blocks of m, each of `size` bytes, where `step` says what a block
+-- makes of a state.
+unfoldable pub absorb : {S : Type 0} → (S → List ℕ → S) → ℕ → ℕ → List ℕ → S → S
+absorb step size n m s = fold step s (first_chunks size n m)

@@ -1,3 +1,6 @@
-// What hash functions share: definitions of messages that are taken in block by block, and their
-// laws. There is no code here.
+// Messages that a hash function takes in block by block: definitions, their laws, and the loop.
 #![tactic(auto)]
+
+mod take_block;
+
+pub use take_block::{TakeBlock, take_blocks};

@@ -4,4 +4,5 @@ mod Lanes
 mod Steps
 mod Growth
 mod Window
+mod Words
 mod Padded

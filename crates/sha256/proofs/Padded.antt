@@ -14,6 +14,7 @@ length-pad : (m : List ℕ) → length (pad m) ≡ length m + (9 + zeros_after (
 unfolding pad
 length-pad m = length-append m (padding (length m)) ∙ rw (length-padding (length m))
 
-pub blocks_pad : (m : List ℕ) (end : ℕ) → end ≡ length m % 64 + 9 + zeros_after (length m) → length (pad m) / 64 ≡ length m / 64 + end / 64
+-- The blocks of the padded message are those of the message, and those of its rest with the padding.
+pub blocks_pad : (m rest : List ℕ) → length rest ≡ length m % 64 → length (pad m) / 64 ≡ length m / 64 + length (rest ++ padding (length m)) / 64
 unfolding zeros_after
-blocks_pad m end e = omega (arith, length-pad m)
+blocks_pad m rest e = omega (arith, length-pad m, length-append rest (padding (length m)), length-padding (length m))

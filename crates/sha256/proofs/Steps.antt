@@ -33,10 +33,14 @@ rounds-append [] (w ∷ w1) k2 w2 v e = absurd (omega arith)
 rounds-append (k ∷ k1) [] k2 w2 v e = absurd (omega arith)
 rounds-append (k ∷ k1) (w ∷ w1) k2 w2 v e = rounds-append k1 w1 k2 w2 (round v k w) (omega arith)
 
-pub rounds-more : (ks ws v : List ℕ) (n : ℕ) → n ≤ length ks → n ≤ length ws → rounds (take (n + 4) ks) (take (n + 4) ws) v ≡ rounds (take 4 (drop n ks)) (take 4 (drop n ws)) (rounds (take n ks) (take n ws) v)
+rounds-more : (ks ws v : List ℕ) (n : ℕ) → n ≤ length ks → n ≤ length ws → rounds (take (n + 4) ks) (take (n + 4) ws) v ≡ rounds (take 4 (drop n ks)) (take 4 (drop n ws)) (rounds (take n ks) (take n ws) v)
 rounds-more ks ws v n in-ks in-ws =
     let same : length (take n ks) ≡ length (take n ws) = length-take-le n ks in-ks ∙ sym (length-take-le n ws in-ws) in
     rw (take-add n 4 ks, take-add n 4 ws) (rounds-append (take n ks) (take n ws) (take 4 (drop n ks)) (take 4 (drop n ws)) v same)
+
+-- Four rounds more, with the constants k and the words w of the place where they stand.
+pub rounds-on : (ks ws start v r k w : List ℕ) (n m : ℕ) → m ≡ n + 4 → n ≤ length ks → n ≤ length ws → k ≡ take 4 (drop n ks) → take 4 (drop n ws) ≡ w → v ≡ rounds (take n ks) (take n ws) start → r ≡ rounds k w v → r ≡ rounds (take m ks) (take m ws) start
+rounds-on ks ws start v r k w n m em in-ks in-ws ek ew ev er = rw em (cc (rounds-more ks ws start n in-ks in-ws))
 
 pub rounds_all : (ks ws v r : List ℕ) (n : ℕ) → length ks ≤ n → length ws ≤ n → r ≡ rounds (take n ks) (take n ws) v → r ≡ rounds ks ws v
 rounds_all ks ws v r n all-ks all-ws e = rw (take_all n ks all-ks, take_all n ws all-ws) at e

@@ -6,9 +6,11 @@ ghost use Rattle.sha256.specs.Sha256.{compress, pad, sha256_hashing};
 ghost use Rattle.std.proofs.Common.{lit<};
 ghost use Rattle.sha256.specs.Digests.{sized, bytes};
 
-use crate::absorb::add_blocks;
+use crate::compression::Compression;
 use crate::constants::{BLOCK, State, initial};
-use crate::message::{pad_rest, write_digest};
+use crate::message::{TAIL, digest, pad};
+use arrays::array_vec::ArrayVec;
+use blocks::take_blocks;
 use interfaces::code::Code;
 use interfaces::hash::{Hash, admit};
 
@@ -29,7 +31,7 @@ impl Hash for Sha256 {
 
     fn hash(&self, text: &[u8], out: &mut [u8]) -> Result<(), Code> {
         admit(text, out)?;
-        write_digest(hash_value(text), out);
+        out.copy_from_slice(digest(hash_value(text)).as_slice());
         Ok(())
     }
 }
@@ -39,9 +41,10 @@ fn hash_value(text: &[u8]) -> State
     requires { length text.now < 2 ^ 61 }
     ensures { result ≡ absorb compress 64 (length (pad text.now) / 64) (pad text.now) H0 }
 {
-    let whole = text.len() / BLOCK;
-    let h = add_blocks(initial(), text, whole);
-    let mut tail = [0; 2 * BLOCK];
-    let end = pad_rest(&text[BLOCK * whole..], text.len(), &mut tail);
-    add_blocks(h, &tail, end / BLOCK)
+    let (h, rest) = take_blocks::<Compression, BLOCK>(initial(), text);
+    let mut tail: ArrayVec<u8, TAIL> = ArrayVec::new(0);
+    tail.extend(rest).unwrap();
+    pad(&mut tail, text.len());
+    let (last, _) = take_blocks::<Compression, BLOCK>(h, tail.as_slice());
+    last
 }

@@ -1,7 +1,7 @@
 // SHA-256 after FIPS 180-4, as an implementation of the hash interface.
 #![tactic(auto)]
 
-mod absorb;
+mod compression;
 mod constants;
 mod functions;
 mod hash;

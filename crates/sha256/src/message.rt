@@ -1,69 +1,53 @@
-// Byte strings put together: the padded tail of a message, and the digest.
-ghost use Rattle.std.specs.Prelude.{◌≡◌, ◌+◌, ◌%◌, ◌^◌, ◌<◌, ◌≤◌, ◌++◌, length, take, replicate};
+// Byte strings put together: the padded rest of a message, and the digest.
+ghost use Rattle.std.specs.Prelude.{◌≡◌, ◌%◌, ◌^◌, ◌<◌, ◌++◌, length};
 ghost use Rattle.std.specs.List.{flat_map};
+ghost use Rattle.arrays.specs.Items.{items};
 ghost use Rattle.sha256.specs.Sha256.{word_bytes, zeros_after, padding};
 
 use crate::constants::{BLOCK, State};
-use interfaces::buffer::clear;
+use arrays::array_vec::ArrayVec;
+use interfaces::digest::DIGEST_LENGTH;
 
 // The bit 1 that ends a message, in a byte of its own.
-const PAD_BYTE: [u8; 1] = [0x80];
+const PAD_BYTE: u8 = 0x80;
+
+const ZEROS: [u8; BLOCK] = [0; BLOCK];
 
 // The length of a message is given in bits, in 64 bits.
 const LENGTH_BYTES: usize = 8;
 
 const BYTE_BITS: u64 = 8;
 
-// Writes `more` into `all` from `start` on, and says where it ends.
-fn put(all: &mut [u8], start: usize, more: &[u8]) -> usize
-    requires { start + length more.now ≤ length all.old }
-    ensures ends { result ≡ start + length more.now }
-    ensures holds { take result all.new ≡ take start all.old ++ more.now }
-{
-    let end = start + more.len();
-    all[start..end].copy_from_slice(more);
-    end
-}
+// The rest of a message, which fills no block, and the padding take two blocks at most.
+pub(crate) const TAIL: usize = 2 * BLOCK;
 
-// Writes `count` zeros into `all` from `start` on, and says where they end.
-fn put_zeros(all: &mut [u8], start: usize, count: usize) -> usize
-    requires { start + count ≤ length all.old }
-    ensures ends { result ≡ start + count }
-    ensures holds { take result all.new ≡ take start all.old ++ replicate count 0 }
+// The digest: the words of the hash value, the highest byte of each first.
+pub(crate) fn digest(h: State) -> ArrayVec<u8, DIGEST_LENGTH>
+    ensures whole { items result ≡ flat_map word_bytes h }
+    ensures long { length (items result) ≡ 32 }
 {
-    let end = start + count;
-    clear(&mut all[start..end]);
-    end
-}
-
-// Writes the digest: the words of the hash value, the highest byte of each first.
-pub(crate) fn write_digest(h: State, out: &mut [u8])
-    requires { length out.old ≡ 32 }
-    ensures { out.new ≡ flat_map word_bytes h }
-{
-    let mut end = 0;
+    let mut digest = ArrayVec::new(0);
     for word in h {
-        end = put(out, end, &word.to_be_bytes());
+        digest.extend(&word.to_be_bytes()).unwrap();
     }
+    digest
 }
 
 // How many zeros stand between the bit 1 and the length of a message of `n` bytes.
 fn zeros_after(n: usize) -> usize
-    ensures { result ≡ zeros_after n }
+    ensures value { result ≡ zeros_after n }
+    ensures short { result < 64 }
 {
-    (2 * BLOCK - PAD_BYTE.len() - LENGTH_BYTES - n % BLOCK) % BLOCK
+    (TAIL - 1 - LENGTH_BYTES - n % BLOCK) % BLOCK
 }
 
-// Writes the rest of a message of `n` bytes, which fills no block, and the padding of the message:
-// one block or two. Says where they end.
-pub(crate) fn pad_rest(rest: &[u8], n: usize, tail: &mut [u8]) -> usize
-    requires { (length rest.now ≡ n % 64) × ((n < 2 ^ 61) × (length tail.old ≡ 128)) }
-    ensures ends { result ≡ n % 64 + 9 + zeros_after n }
-    ensures holds { take result tail.new ≡ rest.now ++ padding n }
+// Puts the padding of a message of `n` bytes behind its rest, which fills no block.
+pub(crate) fn pad(rest: &mut ArrayVec<u8, TAIL>, n: usize)
+    requires { (length (items rest.old) ≡ n % 64) × (n < 2 ^ 61) }
+    ensures { items rest.new ≡ items rest.old ++ padding n }
 {
     let bits = BYTE_BITS * n as u64;
-    let rest_end = put(tail, 0, rest);
-    let pad_end = put(tail, rest_end, &PAD_BYTE);
-    let zeros_end = put_zeros(tail, pad_end, zeros_after(n));
-    put(tail, zeros_end, &bits.to_be_bytes())
+    rest.push(PAD_BYTE).unwrap();
+    rest.extend(&ZEROS[..zeros_after(n)]).unwrap();
+    rest.extend(&bits.to_be_bytes()).unwrap();
 }

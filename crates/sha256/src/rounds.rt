@@ -3,9 +3,9 @@ ghost use Rattle.std.specs.Prelude.{◌≡◌, length};
 ghost use Rattle.sha256.specs.Constants.{K};
 ghost use Rattle.sha256.specs.Sha256.{round, rounds, schedule, sums};
 
-use crate::constants::{ROUNDS, State, round_constants};
+use crate::constants::{BLOCK, ROUND_CONSTANTS, State};
 use crate::functions::{big_sigma0, big_sigma1, ch, maj};
-use crate::schedule::{LANES, VECTOR_BYTES, next_words, words_at};
+use crate::schedule::{LANES, VECTOR_BYTES, next_words, words_of};
 use std::simd::prelude::*;
 
 // A round needs no more of its constant and its word than their sum.
@@ -33,17 +33,18 @@ fn four_rounds(v: State, k: u32x4, w: u32x4) -> State
 
 // The rounds of a block. The schedule goes along with them, a window of its next sixteen words in
 // four vectors: its work then fills the time in which a round waits for the one before.
-pub(crate) fn all_rounds(start: State, block: &[u8]) -> State
-    requires { length block.now ≡ 64 }
+pub(crate) fn all_rounds(start: State, block: &[u8; BLOCK]) -> State
     ensures { result ≡ rounds K (schedule block.now) start }
 {
-    let mut a = words_at(block, 0);
-    let mut b = words_at(block, VECTOR_BYTES);
-    let mut c = words_at(block, 2 * VECTOR_BYTES);
-    let mut d = words_at(block, 3 * VECTOR_BYTES);
+    let (parts, _) = block.as_chunks::<VECTOR_BYTES>();
+    let mut a = words_of(&parts[0]);
+    let mut b = words_of(&parts[1]);
+    let mut c = words_of(&parts[2]);
+    let mut d = words_of(&parts[3]);
     let mut v = start;
-    for i in 0..ROUNDS / LANES {
-        let later = four_rounds(v, round_constants(LANES * i), a);
+    let (constants, _) = ROUND_CONSTANTS.as_chunks::<LANES>();
+    for four in constants {
+        let later = four_rounds(v, u32x4::from_array(*four), a);
         v = later;
         let next = next_words(a, b, c, d);
         a = b;

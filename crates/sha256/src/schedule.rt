@@ -13,24 +13,23 @@ const WORD_BYTES: usize = 4;
 
 const WORD_BITS: u32 = 32;
 
-// The word whose highest byte stands at `at`.
-fn word_at(bytes: &[u8], at: usize) -> u32
-    requires { at + 4 ≤ length bytes.now }
-    ensures { result ≡ first_word (drop at bytes.now) }
+// The word of four bytes, the highest first.
+fn word_of(bytes: &[u8; WORD_BYTES]) -> u32
+    ensures { result ≡ first_word bytes.now }
 {
-    u32::from_be_bytes([bytes[at], bytes[at + 1], bytes[at + 2], bytes[at + 3]])
+    u32::from_be_bytes(*bytes)
 }
 
-// The four words from `at` on.
-pub(crate) fn words_at(bytes: &[u8], at: usize) -> u32x4
-    requires { at + 16 ≤ length bytes.now }
-    ensures { result ≡ words 4 (drop at bytes.now) }
+// The four words of sixteen bytes.
+pub(crate) fn words_of(bytes: &[u8; VECTOR_BYTES]) -> u32x4
+    ensures { result ≡ words 4 bytes.now }
 {
+    let (words, _) = bytes.as_chunks::<WORD_BYTES>();
     u32x4::from_array([
-        word_at(bytes, at),
-        word_at(bytes, at + WORD_BYTES),
-        word_at(bytes, at + 2 * WORD_BYTES),
-        word_at(bytes, at + 3 * WORD_BYTES),
+        word_of(&words[0]),
+        word_of(&words[1]),
+        word_of(&words[2]),
+        word_of(&words[3]),
     ])
 }
 

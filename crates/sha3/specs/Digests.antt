@@ -4,7 +4,7 @@ use Rattle.std.proofs.Common.{ap, ◌∙◌, arith}
 use Rattle.std.specs.List.{AllByRecursion}
 use Rattle.std.proofs.lemmas.List.{length-take-le}
 use Rattle.blocks.specs.Blocks.{absorb}
-use Rattle.blocks.proofs.Absorbed.{absorb-length}
+use Rattle.blocks.proofs.Absorbed.{absorb-keeps}
 use Rattle.blocks.proofs.Written.{written-length, written-bytes}
 use Rattle.sha3.specs.Keccak.{keccak_f}
 use Rattle.sha3.specs.Sha3.{lane_bytes, taken, pad, S0, sha3_256}
@@ -18,7 +18,7 @@ unfolding lane_bytes sha3_256 S0
 sized m =
     let n = length (pad m) / 136 in
     let s = absorb taken 136 n (pad m) S0 in
-    let all = absorb-length taken 136 25 long n (pad m) S0 refl in
+    let all = absorb-keeps taken 136 (λ s. length s ≡ 25) long n (pad m) S0 refl in
     written-length lane_bytes 8 (λ x. refl) (take 4 s) ∙ ap (λ k. 8 * k) (length-take-le 4 s (omega arith))
 
 small : (x : ℕ) → AllByRecursion (λ b. b < 256) (lane_bytes x)

@@ -1,7 +1,4 @@
 // The sizes and the constants of SHA3-256.
-ghost use Rattle.std.specs.Prelude.{◌≡◌, ◌<◌, slice_index};
-ghost use Rattle.sha3.specs.Keccak.{constants};
-
 // The rate, which is the length of a block, in bytes.
 pub(crate) const RATE: usize = 136;
 
@@ -15,7 +12,7 @@ pub(crate) const ROUNDS: usize = 24;
 
 pub(crate) type State = [u64; LANES];
 
-static ROUND_CONSTANTS: [u64; ROUNDS] = [
+pub(crate) static ROUND_CONSTANTS: [u64; ROUNDS] = [
     0x0000000000000001,
     0x0000000000008082,
     0x800000000000808a,
@@ -41,10 +38,3 @@ static ROUND_CONSTANTS: [u64; ROUNDS] = [
     0x0000000080000001,
     0x8000000080008008,
 ];
-
-pub(crate) fn round_constant(i: usize) -> u64
-    requires { i < 24 }
-    ensures { result ≡ slice_index (constants 24 0) i }
-{
-    ROUND_CONSTANTS[i]
-}

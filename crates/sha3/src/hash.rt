@@ -6,8 +6,9 @@ ghost use Rattle.std.proofs.Common.{lit<};
 ghost use Rattle.sha3.specs.Digests.{sized, bytes};
 
 use crate::constants::{LANES, RATE, State};
-use crate::message::{last_block, write_digest};
-use crate::sponge::add_blocks;
+use crate::message::{digest, last_block};
+use crate::sponge::Sponge;
+use blocks::{TakeBlock, take_blocks};
 use interfaces::code::Code;
 use interfaces::hash::{Hash, admit};
 
@@ -28,7 +29,7 @@ impl Hash for Sha3 {
 
     fn hash(&self, text: &[u8], out: &mut [u8]) -> Result<(), Code> {
         admit(text, out)?;
-        write_digest(final_state(text), out);
+        out.copy_from_slice(digest(final_state(text)).as_slice());
         Ok(())
     }
 }
@@ -37,8 +38,7 @@ impl Hash for Sha3 {
 fn final_state(text: &[u8]) -> State
     ensures { result ≡ absorb taken 136 (length (pad text.now) / 136) (pad text.now) S0 }
 {
-    let whole = text.len() / RATE;
-    let s = add_blocks([0; LANES], text, whole);
-    let last = last_block(&text[RATE * whole..]);
-    add_blocks(s, &last, 1)
+    let (s, rest) = take_blocks::<Sponge, RATE>([0; LANES], text);
+    let last = last_block(rest);
+    Sponge::take_block(s, &last)
 }

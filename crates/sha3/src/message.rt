@@ -1,9 +1,11 @@
 // Byte strings put together: the last block of a message, and the digest.
-ghost use Rattle.std.specs.Prelude.{◌≡◌, ◌<◌, length, take, slice_set};
+ghost use Rattle.std.specs.Prelude.{◌≡◌, ◌<◌, length, take};
 ghost use Rattle.std.specs.List.{flat_map};
-ghost use Rattle.sha3.specs.Sha3.{lane_bytes, ended, pad};
+ghost use Rattle.arrays.specs.Items.{items};
+ghost use Rattle.sha3.specs.Sha3.{lane_bytes, pad};
 
 use crate::constants::{LANE_BYTES, RATE, State};
+use arrays::array_vec::ArrayVec;
 use interfaces::digest::DIGEST_LENGTH;
 
 type Block = [u8; RATE];
@@ -14,17 +16,6 @@ const SUFFIX: u8 = 0x06;
 // The last bit 1 of the padding.
 const LAST_BIT: u8 = 0x80;
 
-// The block with the padding behind its first `n` bytes, where it has zeros.
-fn marked(block: Block, n: usize) -> Block
-    requires { n < 136 }
-    ensures { result ≡ ended (slice_set block n 0x06) }
-{
-    let mut b = block;
-    b[n] = SUFFIX;
-    b[RATE - 1] |= LAST_BIT;
-    b
-}
-
 // The rest of a message, which fills no block, padded to one.
 pub(crate) fn last_block(rest: &[u8]) -> Block
     requires { length rest.now < 136 }
@@ -33,16 +24,19 @@ pub(crate) fn last_block(rest: &[u8]) -> Block
     let n = rest.len();
     let mut block = [0; RATE];
     block[..n].copy_from_slice(rest);
-    marked(block, n)
+    block[n] = SUFFIX;
+    block[RATE - 1] |= LAST_BIT;
+    block
 }
 
-// Writes the digest: the first lanes of the state, the lowest byte of each first.
-pub(crate) fn write_digest(s: State, out: &mut [u8])
-    requires { length out.old ≡ 32 }
-    ensures { out.new ≡ flat_map lane_bytes (take 4 s) }
+// The digest: the first lanes of the state, the lowest byte of each first.
+pub(crate) fn digest(s: State) -> ArrayVec<u8, DIGEST_LENGTH>
+    ensures whole { items result ≡ flat_map lane_bytes (take 4 s) }
+    ensures long { length (items result) ≡ 32 }
 {
-    for i in 0..DIGEST_LENGTH / LANE_BYTES {
-        let at = LANE_BYTES * i;
-        out[at..at + LANE_BYTES].copy_from_slice(&s[i].to_le_bytes());
+    let mut digest = ArrayVec::new(0);
+    for lane in &s[..DIGEST_LENGTH / LANE_BYTES] {
+        digest.extend(&lane.to_le_bytes()).unwrap();
     }
+    digest
 }

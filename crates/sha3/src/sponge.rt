@@ -1,50 +1,46 @@
 // The state, block by block.
-ghost use Rattle.std.specs.Prelude.{◌≡◌, ◌+◌, ◌*◌, ◌≤◌, length, drop};
-ghost use Rattle.blocks.specs.Blocks.{absorb};
+ghost use Rattle.std.specs.Prelude.{◌≡◌};
+ghost use Rattle.std.proofs.Common.{lit<};
 ghost use Rattle.sha3.specs.Sha3.{first_lane, added, taken};
 
 use crate::constants::{LANE_BYTES, RATE, State};
 use crate::permutation::keccak_f;
+use blocks::TakeBlock;
 
-// The lane whose lowest byte stands at `at`.
-fn lane_at(bytes: &[u8], at: usize) -> u64
-    requires { at + 8 ≤ length bytes.now }
-    ensures { result ≡ first_lane (drop at bytes.now) }
-{
-    u64::from_le_bytes([
-        bytes[at],
-        bytes[at + 1],
-        bytes[at + 2],
-        bytes[at + 3],
-        bytes[at + 4],
-        bytes[at + 5],
-        bytes[at + 6],
-        bytes[at + 7],
-    ])
+// What SHA3-256 makes of a state and a block.
+pub(crate) struct Sponge;
+
+impl TakeBlock<RATE> for Sponge {
+    type State = State;
+
+    ghost step = { taken };
+
+    // Inlined, so that its callers share one permutation.
+    #[inline(always)]
+    fn take_block(s: State, block: &[u8; RATE]) -> State {
+        keccak_f(add_lanes(s, block))
+    }
+
+    ghost some = { lit< tt };
+
+    ghost fits = { lit< tt };
 }
 
 // The state `start` with a block added to it.
-fn add_lanes(start: State, block: &[u8]) -> State
-    requires { length block.now ≡ 136 }
+fn add_lanes(start: State, block: &[u8; RATE]) -> State
     ensures { result ≡ added 17 start block.now }
 {
+    let (lanes, _) = block.as_chunks::<LANE_BYTES>();
     let mut s = start;
-    for i in 0..RATE / LANE_BYTES {
-        s[i] ^= lane_at(block, LANE_BYTES * i);
+    for (i, lane) in lanes.iter().enumerate() {
+        s[i] ^= lane_of(lane);
     }
     s
 }
 
-// The state `start` after the first `count` blocks of `bytes`.
-pub(crate) fn add_blocks(start: State, bytes: &[u8], count: usize) -> State
-    requires { count * 136 ≤ length bytes.now }
-    ensures { result ≡ absorb taken 136 count bytes.now start }
+// The lane of eight bytes, the lowest first.
+fn lane_of(bytes: &[u8; LANE_BYTES]) -> u64
+    ensures { result ≡ first_lane bytes.now }
 {
-    let mut s = start;
-    for i in 0..count {
-        let at = RATE * i;
-        let next = keccak_f(add_lanes(s, &bytes[at..at + RATE]));
-        s = next;
-    }
-    s
+    u64::from_le_bytes(*bytes)
 }
