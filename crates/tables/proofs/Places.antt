@@ -1,12 +1,13 @@
 -- Laws of the places of entries: what they are in the table of the entries' keys and values.
-use Rattle.std.proofs.Common.{arith, inl, inr, ◌⊎◌, ◌≤◌, ◌≡◌, ℕ, suc, ◌+◌, ◌<◌, Bool, true, false, cond, not, ◌||◌, ltb, List, [], ◌∷◌, map, length, is_some, Some, None, Ok, Err, Option, sym, refl, ap, ◌∙◌}
+use Rattle.std.proofs.Common.{arith, inl, inr, ◌⊎◌, ◌≤◌, ◌≡◌, ℕ, suc, ◌+◌, ◌<◌, Bool, true, false, cond, not, ◌||◌, ltb, List, [], ◌∷◌, map, length, get_or, is_some, Some, None, Ok, Err, Option, sym, refl, ap, ◌∙◌}
 use Rattle.std.specs.List.{position, position_or_len}
 use Rattle.std.specs.Option.{option_map}
-use Rattle.std.proofs.lemmas.List.{length-map}
+use Rattle.std.proofs.lemmas.List.{get_or-map, length-map}
 use Rattle.std.proofs.lemmas.Bool.{cases_lt, cond-true, cond-false, le-ltb, lt-ltb}
 use Rattle.interfaces.specs.declared.code.Code.TheVariants.{Memory}
 use Rattle.interfaces.specs.Checks.{refused_with, settled, unless}
 use Rattle.tables.specs.Tables.{value_under, place_under, put_under, full_flaw}
+use Rattle.tables.proofs.Laws.{first-within, place_first, place_none, place_some}
 use Rattle.tables.specs.Puts.{its_place, put_at, has_room, with_put}
 
 position-more : {X : Type 0} (p : X → Bool) (x : X) (xs : List X) → position p (x ∷ xs) ≡ cond (p x) (Some 0) (option_map suc (position p xs))
@@ -37,6 +38,16 @@ module _ {E K V : Type 0} (entry : E → K × V) (same : K → K → Bool) where
   pub place_is : (es : List E) (key : K) → position (λ e. same (entry e).0 key) es ≡ place_under same (map entry es) key
   place_is [] key = refl
   place_is (e ∷ es) key = position-more (λ x. same (entry x).0 key) e es ∙ ap (λ o. cond (same (entry e).0 key) (Some 0) (option_map suc o)) (place_is es key)
+
+  -- what its place tells of the value under a key
+  pub found_value : (es : List E) (key : K) (p : ℕ) (e : E) → position (λ x. same (entry x).0 key) es ≡ Some p → e ≡ get_or es p e → value_under same (map entry es) key ≡ Some (entry e).1
+  found_value es key p e found is =
+      let at = sym (place_is es key) ∙ found in
+      let within : p < length es = omega (arith, length-map es entry, first-within same (map entry es) key p (place_first same (map entry es) key p at)) in
+      place_some same (map entry es) key p (entry e) at ∙ ap (λ x. Some x.1) (get_or-map entry es p e (entry e) within ∙ ap entry (sym is))
+
+  pub missing_value : (es : List E) (key : K) → position (λ x. same (entry x).0 key) es ≡ None → value_under same (map entry es) key ≡ None
+  missing_value es key missing = place_none same (map entry es) key (sym (place_is es key) ∙ missing)
 
   put_later : (x : E) (o : Option ℕ) (es : List E) (e : E) → put_at (option_map suc o) (x ∷ es) e ≡ x ∷ put_at o es e
   put_later x None es e = refl
