@@ -59,8 +59,11 @@ pub record Holding (s : Snapshot) (number : ℕ) : Type 0 where
   pub exactly : (name : List ℕ) → Decides (is_some (s.stored name)) (ContainsAt names name)
 
 -- Putting a value: one more than the most is refused, unless it replaces one.
+abbrev pub lengths_flaw : List ℕ → List ℕ → Option Code
+lengths_flaw name value = unless (length name == name_length && nat_le (length value) value_limit) Size
+
 abbrev pub put_flaw : Snapshot → ℕ → List ℕ → List ℕ → Option Code
-put_flaw s number name value = first (unless (length name == name_length && nat_le (length value) value_limit) Size) (unless (is_some (s.stored name) || nat_lt number value_count) Memory)
+put_flaw s number name value = first (lengths_flaw name value) (unless (is_some (s.stored name) || nat_lt number value_count) Memory)
 
 -- What putting a value answers, and the state after it.
 pub record Put (s : Snapshot) (name value : List ℕ) (r : Result (Unit {0}) Code) (s' : Snapshot) : Type 0 where

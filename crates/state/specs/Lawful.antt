@@ -1,12 +1,12 @@
 -- The reader's own state keeps the bounds of a reader state.
-use Rattle.std.specs.Prelude.{◌≡◌, ℕ, zero, suc, ◌<◌, ◌≤◌, List, [], ◌∷◌, map, length, take, Some, slice_index_or}
+use Rattle.std.specs.Prelude.{◌≡◌, ℕ, zero, suc, ◌<◌, ◌≤◌, List, [], ◌∷◌, map, length, Some, slice_index_or}
 use Rattle.std.proofs.Common.{arith, ◌∙◌}
 use Rattle.std.specs.List.{AllByRecursion}
 use Rattle.std.specs.Str.{bytes_eq}
-use Rattle.std.proofs.ByRecursion.{All-take}
 use Rattle.std.proofs.lemmas.Slice.Eq.{bytes_eq-Decides}
 use Rattle.std.proofs.lemmas.List.{length-map, length-take}
-use Rattle.interfaces.specs.declared.pcr.Pcr.{Pcr}
+use Rattle.arrays.specs.Items.{items}
+use Rattle.interfaces.specs.declared.byte_array.ByteArray.{ByteArray}
 use Rattle.interfaces.specs.Checks.{Bytes}
 use Rattle.interfaces.specs.Views.{pcr_bytes}
 use Rattle.interfaces.specs.States.{Sound, pcr_length, name_length, value_limit}
@@ -19,11 +19,11 @@ use Rattle.state.specs.declared.values.Values.{Values}
 use Rattle.state.specs.Entries.{entry_of}
 use Rattle.state.specs.Views.{held, own_snapshot}
 
-pcrs_long : (ps : List Pcr) → AllByRecursion (λ p. length p ≡ pcr_length) (map pcr_bytes ps)
+pcrs_long : (ps : List (ByteArray pcr_length)) → AllByRecursion (λ p. length p ≡ pcr_length) (map pcr_bytes ps)
 pcrs_long [] = tt
 pcrs_long (p ∷ ps) = (p.long, pcrs_long ps)
 
-pcrs_bytes : (ps : List Pcr) → AllByRecursion Bytes (map pcr_bytes ps)
+pcrs_bytes : (ps : List (ByteArray pcr_length)) → AllByRecursion Bytes (map pcr_bytes ps)
 pcrs_bytes [] = tt
 pcrs_bytes (p ∷ ps) = (small_bytes p.bytes p.small, pcrs_bytes ps)
 
@@ -38,8 +38,8 @@ kept e =
     let v = e.value in
     record {
       named = e.named;
-      short = omega (arith, length-take v.len v.bytes, v.within);
-      bytes = All-take (λ b. b < 256) v.len v.bytes (small_bytes v.bytes v.small);
+      short = omega (arith, length-take v.bytes.len v.bytes.all, v.bytes.within);
+      bytes = small_bytes (items v.bytes) v.small;
     }
 
 every : (es : List Entry) (i : ℕ) (d : List ℕ × List ℕ) → i < length (map entry_of es) → Kept (slice_index_or (map entry_of es) i d).0 (slice_index_or (map entry_of es) i d).1
@@ -48,7 +48,7 @@ every (e ∷ es) zero d h = kept e
 every (e ∷ es) (suc i) d h = every es i d (omega arith)
 
 stored-kept : (v : Values) (name value : List ℕ) → value_under bytes_eq (held v) name ≡ Some value → Kept name value
-stored-kept v name value e = value_holds bytes_eq Kept (held v) name value (every (take v.used v.entries)) (λ x y. (bytes_eq-Decides x y).0) e
+stored-kept v name value e = value_holds bytes_eq Kept (held v) name value (every (items v.entries)) (λ x y. (bytes_eq-Decides x y).0) e
 
 stored-named : (v : Values) (name value : List ℕ) → value_under bytes_eq (held v) name ≡ Some value → length name ≡ name_length
 stored-named v name value e = (stored-kept v name value e).named

@@ -29,7 +29,10 @@ impl ReaderState for Own {
             clear(out);
             return Err(Code::Handle);
         };
-        fill(out, self.values.entries[place].value.as_slice())
+        fill(
+            out,
+            self.values.entries.as_slice()[place].value.bytes.as_slice(),
+        )
     }
 
     fn time_info(&self, out: &mut [u8]) -> Result<(), Code> {

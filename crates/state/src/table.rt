@@ -1,36 +1,18 @@
 // The table of values: looked up and put by Name.
-ghost use Rattle.std.specs.Prelude.{◌≡◌, ◌<◌, ◌≤◌, [], length, IfSome, None};
+ghost use Rattle.std.specs.Prelude.{◌≡◌, [], position};
 ghost use Rattle.std.specs.Str.{bytes_eq};
+ghost use Rattle.arrays.specs.Items.{items};
 ghost use Rattle.interfaces.specs.Checks.{refused_with, settled};
-ghost use Rattle.interfaces.specs.States.{value_limit};
 ghost use Rattle.state.specs.Entries.{value_bytes, value_count};
-ghost use Rattle.tables.specs.Tables.{full_flaw, place_under, put_under};
+ghost use Rattle.tables.specs.Tables.{full_flaw, put_under};
 ghost use Rattle.state.specs.Views.{held};
 
 use crate::entry::{Entry, StoredValue};
-use crate::values::{VALUE_COUNT, Values};
+use crate::values::Values;
+use arrays::array_vec::ArrayVec;
 use interfaces::code::Code;
 use interfaces::name::{NAME_LENGTH, Name};
-use interfaces::state::VALUE_LIMIT;
-use text::word::same;
-use text::write::put;
-
-impl StoredValue {
-    pub(crate) fn new(value: &[u8]) -> StoredValue
-        requires { length value.now ≤ value_limit }
-        ensures { value_bytes result ≡ value.now }
-    {
-        let mut bytes = [0; VALUE_LIMIT];
-        let len = put(&mut bytes, 0, value).unwrap();
-        StoredValue { bytes, len }
-    }
-
-    pub(crate) fn as_slice(&self) -> &[u8]
-        ensures { result.now ≡ value_bytes self.now }
-    {
-        &self.bytes[0..self.len]
-    }
-}
+use tables::put::put;
 
 fn empty_entry() -> Entry {
     Entry {
@@ -38,8 +20,7 @@ fn empty_entry() -> Entry {
             bytes: [0; NAME_LENGTH],
         },
         value: StoredValue {
-            bytes: [0; VALUE_LIMIT],
-            len: 0,
+            bytes: ArrayVec::new(0),
         },
     }
 }
@@ -49,37 +30,18 @@ impl Values {
         ensures { held result ≡ [] }
     {
         Values {
-            entries: [empty_entry(); VALUE_COUNT],
-            used: 0,
+            entries: ArrayVec::new(empty_entry()),
         }
     }
 
     // The place of a Name.
     pub(crate) fn place(&self, name: &[u8]) -> Option<usize>
-        ensures value { result ≡ place_under bytes_eq (held self.now) name.now }
-        ensures within { IfSome result (λ p. p < self.now.used) }
+        ensures { result ≡ position (λ e. bytes_eq e.name.bytes name.now) (items self.now.entries) }
     {
-        for place in 0..self.used {
-            if same(&self.entries[place].name.bytes, name) {
-                return Some(place);
-            }
-        }
-        None
-    }
-
-    // Puts a value behind the last: its Name is not held yet.
-    fn add(&mut self, entry: Entry) -> Result<(), Code>
-        requires { place_under bytes_eq (held self.old) entry.name.bytes ≡ None }
-        ensures answer { result ≡ refused_with (full_flaw bytes_eq value_count (held self.old) entry.name.bytes) tt }
-        ensures after { held self.new ≡ settled (full_flaw bytes_eq value_count (held self.old) entry.name.bytes) (put_under bytes_eq (held self.old) entry.name.bytes (value_bytes entry.value)) (held self.old) }
-    {
-        let used = self.used;
-        if used >= VALUE_COUNT {
-            return Err(Code::Memory);
-        }
-        self.entries[used] = entry;
-        self.used = used + 1;
-        Ok(())
+        self.entries
+            .as_slice()
+            .iter()
+            .position(|e| e.name.bytes.as_slice() == name)
     }
 
     // Puts the value in the place of one with its Name, or behind the last.
@@ -87,11 +49,6 @@ impl Values {
         ensures answer { result ≡ refused_with (full_flaw bytes_eq value_count (held self.old) entry.name.bytes) tt }
         ensures after { held self.new ≡ settled (full_flaw bytes_eq value_count (held self.old) entry.name.bytes) (put_under bytes_eq (held self.old) entry.name.bytes (value_bytes entry.value)) (held self.old) }
     {
-        let found = self.place(&entry.name.bytes);
-        let Some(place) = found else {
-            return self.add(entry);
-        };
-        self.entries[place] = entry;
-        Ok(())
+        put(&mut self.entries, entry).map_err(|_| Code::Memory)
     }
 }

@@ -1,3 +1,3 @@
 pub mod Laws
 pub mod Bytes
-pub mod Used
+pub mod Places

@@ -1,5 +1,5 @@
 -- Small tables of values under keys, as lists in their order. Keys are compared by a test.
-use Rattle.std.specs.Prelude.{ℕ, suc, Bool, true, cond, not, ◌&&◌, ◌||◌, List, [], ◌∷◌, map, length, take, is_some, Some, None, Option, nat_lt}
+use Rattle.std.specs.Prelude.{ℕ, suc, Bool, true, cond, not, ◌&&◌, ◌||◌, List, [], ◌∷◌, length, is_some, Some, None, Option, nat_lt}
 use Rattle.std.specs.Option.{option_map}
 use Rattle.interfaces.specs.declared.code.Code.{Code}
 use Rattle.interfaces.specs.declared.code.Code.TheVariants.{Memory}
@@ -24,10 +24,6 @@ put_under same (e ∷ es) key value = cond (same e.0 key) ((key, value) ∷ es) 
 abbrev pub distinct : {K V : Type 0} → (K → K → Bool) → List (K × V) → Bool
 distinct same [] = true
 distinct same (e ∷ es) = not (is_some (value_under same es e.0)) && distinct same es
-
--- The table of the first `used` entries of an array; the others mean nothing.
-abbrev pub used_of : {E K V : Type 0} → (E → K × V) → ℕ → List E → List (K × V)
-used_of entry used entries = map entry (take used entries)
 
 -- A value for one more key than the most is refused.
 abbrev pub full_flaw : {K V : Type 0} → (K → K → Bool) → ℕ → List (K × V) → K → Option Code

@@ -1,3 +1,4 @@
-// Small tables of values under keys: definitions and laws alone, which own state, block and forecast
-// share.
+// Small tables of values under keys, which own state, block and forecast share.
 #![tactic(auto)]
+
+pub mod put;
