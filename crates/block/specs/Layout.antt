@@ -1,6 +1,6 @@
 -- The layout of a state block, and what it means. Numbers of several bytes are big-endian.
-use Rattle.std.specs.Prelude.{ℕ, zero, suc, ◌+◌, ◌*◌, Bool, true, ◌&&◌, List, map, length, take, drop, fold, Option, ◌==◌, nat_le, slice_index}
-use Rattle.std.specs.List.{range_with_len}
+use Rattle.std.specs.Prelude.{ℕ, ◌+◌, ◌*◌, Bool, ◌&&◌, List, map, length, take, drop, fold, Option, ◌==◌, nat_le, slice_index}
+use Rattle.std.specs.List.{list_all, range_with_len}
 use Rattle.std.specs.Str.{bytes_eq}
 use Rattle.interfaces.specs.declared.code.Code.{Code}
 use Rattle.interfaces.specs.declared.code.Code.TheVariants.{Size, Value}
@@ -84,8 +84,7 @@ entries_in bs = map (entry_in bs) (range_with_len 0 (number_in bs))
 
 -- The values of the first n entries have at most 64 bytes.
 abbrev pub lengths_fit : List ℕ → ℕ → Bool
-lengths_fit bs zero = true
-lengths_fit bs (suc n) = nat_le (length_in bs n) value_limit && lengths_fit bs n
+lengths_fit bs n = list_all (λ i. nat_le (length_in bs i) value_limit) (range_with_len 0 n)
 
 -- Every byte that has a range is within it.
 abbrev pub in_range : List ℕ → Bool

@@ -1,18 +1,20 @@
 -- What the bytes of a block in range are, one by one.
-use Rattle.std.proofs.Common.{◌≡◌, ℕ, ◌<◌, ◌≤◌, true, false, leb, List, Decides, refl, inl, inr, arith}
-use Rattle.std.proofs.lemmas.Bool.{and_parts, cases_Bool, leb-true, le-leb}
-use Rattle.std.proofs.lemmas.Bool.Decides.{Decides-below_and}
+use Rattle.std.proofs.Common.{◌≡◌, ℕ, ◌+◌, ◌<◌, ◌≤◌, Bool, true, leb, List, ap, ◌∙◌, inl, inr, arith}
+use Rattle.std.proofs.lemmas.Bool.{and_parts, both_ways, cases_Bool, leb-true}
+use Rattle.std.proofs.lemmas.List.Folds.{list_all_at}
+use Rattle.std.proofs.lemmas.List.FromFn.{get_or-range_with_len, length-range_with_len}
+use Rattle.std.specs.List.{range_with_len}
 use Rattle.interfaces.specs.States.{last_locality, value_limit}
 use Rattle.block.specs.Layout.{entry_count, in_range, length_in, lengths_fit, locality_in, number_in, presence_in}
 
-lengths_decide : (bs : List ℕ) (n : ℕ) → Decides (lengths_fit bs n) ((k : ℕ) → k < n → length_in bs k ≤ value_limit)
-lengths_decide bs n = Decides-below_and (λ k. leb (length_in bs k) value_limit) (λ k. length_in bs k ≤ value_limit) (lengths_fit bs) (λ k. (leb-true _ _, le-leb _ _)) refl (λ _. refl) n
+lengths_each : (bs : List ℕ) (n k : ℕ) → lengths_fit bs n ≡ true → k < n → length_in bs k ≤ value_limit
+lengths_each bs n k e h = elim (cases_Bool (fits k)) [ inl t ↦ leb-true _ _ t | inr f ↦ absurd (both_ways _ (list_all_at fits (range_with_len 0 n) k 0 (omega (arith, length-range_with_len 0 n)) (ap fits (get_or-range_with_len 0 n k 0 h ∙ at) ∙ f)) e) ]
+  where
+    fits : ℕ → Bool
+    fits i = leb (length_in bs i) value_limit
 
-pub lengths_fit_lem : (bs : List ℕ) (n : ℕ) → ((k : ℕ) → k < n → length_in bs k ≤ value_limit) → lengths_fit bs n ≡ true
-lengths_fit_lem bs n h = (lengths_decide bs n).1 h
-
-pub lengths_miss : (bs : List ℕ) (n i : ℕ) → i < n → value_limit < length_in bs i → lengths_fit bs n ≡ false
-lengths_miss bs n i l h = elim (cases_Bool (lengths_fit bs n)) [ inl e ↦ absurd (omega (arith, (lengths_decide bs n).0 e i l)) | inr e ↦ e ]
+    at : 0 + k ≡ k
+    at = omega arith
 
 pub record Ranges (bs : List ℕ) : Type 0 where
   pub locality : locality_in bs ≤ last_locality
@@ -25,4 +27,4 @@ ranges bs e =
     let a = and_parts _ _ e in
     let b = and_parts _ _ a.1 in
     let c = and_parts _ _ b.1 in
-    record { locality = leb-true _ _ a.0; presence = leb-true _ _ b.0; number = leb-true _ _ c.0; lengths = (lengths_decide bs (number_in bs)).0 c.1 }
+    record { locality = leb-true _ _ a.0; presence = leb-true _ _ b.0; number = leb-true _ _ c.0; lengths = λ i. lengths_each bs (number_in bs) i c.1 }

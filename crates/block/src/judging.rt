@@ -1,8 +1,7 @@
 // A block taken as a state.
-ghost use Rattle.std.specs.Prelude.{◌≡◌, ◌<◌, ◌≤◌, length, replicate, nat_le};
+ghost use Rattle.std.specs.Prelude.{◌≡◌, ◌≤◌, replicate};
 ghost use Rattle.interfaces.specs.Checks.{refused_with, settled};
-ghost use Rattle.interfaces.specs.States.{value_limit};
-ghost use Rattle.block.specs.Layout.{block_flaw, block_length, entry_count, in_range, length_in, lengths_fit};
+ghost use Rattle.block.specs.Layout.{block_flaw, block_length, entry_count, in_range, lengths_fit};
 ghost use Rattle.block.specs.Views.{block_bytes};
 
 use crate::block::Block;
@@ -13,46 +12,42 @@ use interfaces::code::Code;
 use interfaces::name::NAME_LENGTH;
 use interfaces::state::{LAST_LOCALITY, VALUE_LIMIT};
 
-fn length_fits(bytes: &[u8], i: usize) -> bool
-    requires long { length bytes.now ≡ block_length }
-    requires held { i < entry_count }
-    ensures { result ≡ nat_le (length_in bytes.now i) value_limit }
-{
-    bytes[ENTRIES_AT + ENTRY_LENGTH * i + NAME_LENGTH] as usize <= VALUE_LIMIT
-}
-
 // Whether the values of the first entries have their lengths.
-fn lengths_fit(bytes: &[u8], number: usize) -> bool
-    requires long { length bytes.now ≡ block_length }
-    requires few { number ≤ entry_count }
+fn lengths_fit(bytes: &[u8; BLOCK_LENGTH], number: usize) -> bool
+    requires { number ≤ entry_count }
     ensures { result ≡ lengths_fit bytes.now number }
 {
-    for i in 0..number {
-        if !length_fits(bytes, i) {
-            return false;
-        }
-    }
-    true
+    (0..number).all(|i| bytes[ENTRIES_AT + ENTRY_LENGTH * i + NAME_LENGTH] as usize <= VALUE_LIMIT)
 }
 
-fn in_range(bytes: &[u8]) -> bool
-    requires { length bytes.now ≡ block_length }
+fn in_range(bytes: &[u8; BLOCK_LENGTH]) -> bool
     ensures { result ≡ in_range bytes.now }
 {
     let number = bytes[NUMBER_AT] as usize;
-    if bytes[LOCALITY_AT] > LAST_LOCALITY {
-        return false;
-    }
-    if bytes[PRESENCE_AT] > 1 {
-        return false;
-    }
-    if number > ENTRY_COUNT {
-        return false;
-    }
-    lengths_fit(bytes, number)
+    bytes[LOCALITY_AT] <= LAST_LOCALITY
+        && bytes[PRESENCE_AT] <= 1
+        && number <= ENTRY_COUNT
+        && lengths_fit(bytes, number)
 }
 
 static ZEROS: [u8; BLOCK_LENGTH] = [0; BLOCK_LENGTH];
+
+impl<'a> TryFrom<&'a [u8]> for Block<'a> {
+    ghost use Rattle.interfaces.specs.Checks.{meant};
+
+    type Error = Code;
+
+    ghost try_from_gives = { λ bytes r. meant block_bytes r ≡ refused_with (block_flaw bytes.now) bytes.now };
+
+    // Another length is refused, then a byte out of its range.
+    fn try_from(bytes: &'a [u8]) -> Result<Block<'a>, Code> {
+        let bytes = bytes.try_into()?;
+        if !in_range(bytes) {
+            return Err(Code::Value);
+        }
+        Ok(Block { bytes })
+    }
+}
 
 impl<'a> Block<'a> {
     // The block of zeros, which is the state of a new reader.
@@ -62,19 +57,12 @@ impl<'a> Block<'a> {
         Block { bytes: &ZEROS }
     }
 
-    // Takes the bytes for the block: another length is refused, then a byte out of its range, and the
-    // block is then as it was.
+    // Takes the bytes for the block; where they are refused, the block is as it was.
     pub fn load(&mut self, bytes: &'a [u8]) -> Result<(), Code>
         ensures answer { result ≡ refused_with (block_flaw bytes.now) tt }
         ensures after { block_bytes self.new ≡ settled (block_flaw bytes.now) bytes.now (block_bytes self.old) }
     {
-        if bytes.len() != BLOCK_LENGTH {
-            return Err(Code::Size);
-        }
-        if !in_range(bytes) {
-            return Err(Code::Value);
-        }
-        self.bytes = bytes;
+        *self = Block::try_from(bytes)?;
         Ok(())
     }
 }

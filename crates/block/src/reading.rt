@@ -18,7 +18,6 @@ use interfaces::name::NAME_LENGTH;
 use interfaces::state::{
     PCR_LENGTH, ReaderState, TIME_LENGTH, admit_pcr, admit_stored, admit_time,
 };
-use text::word::same;
 
 impl Block<'_> {
     fn part(&self, at: usize, len: usize) -> &[u8]
@@ -26,7 +25,8 @@ impl Block<'_> {
         ensures is { result.now ≡ part (block_bytes self.now) at len }
         ensures long { length result.now ≡ len }
     {
-        &self.bytes[at..at + len]
+        let bytes = self.bytes.as_slice();
+        &bytes[at..at + len]
     }
 
     // The value of a PCR.
@@ -36,15 +36,6 @@ impl Block<'_> {
         ensures long { length result.now ≡ pcr_length }
     {
         self.part(PCR_LENGTH * index, PCR_LENGTH)
-    }
-
-    // The bytes of the change count.
-    fn count(&self) -> [u8; COUNT_LENGTH]
-        ensures { result ≡ part (block_bytes self.now) count_at count_length }
-    {
-        let mut count = [0; COUNT_LENGTH];
-        count.copy_from_slice(self.part(COUNT_AT, COUNT_LENGTH));
-        count
     }
 
     fn name(&self, i: usize) -> &[u8]
@@ -83,12 +74,7 @@ impl Block<'_> {
     pub fn place(&self, name: &[u8]) -> Option<usize>
         ensures { result ≡ place_under bytes_eq (entries_in (block_bytes self.now)) name.now }
     {
-        for i in 0..self.number() {
-            if same(self.name(i), name) {
-                return Some(i);
-            }
-        }
-        None
+        (0..self.number()).position(|i| self.name(i) == name)
     }
 }
 
@@ -104,7 +90,7 @@ impl<'a> ReaderState for Block<'a> {
     }
 
     fn change_count(&self) -> u64 {
-        u64::from_be_bytes(self.count())
+        u64::from_be_bytes(self.part(COUNT_AT, COUNT_LENGTH).try_into().unwrap())
     }
 
     fn stored_value(&self, name: &[u8], out: &mut [u8]) -> Result<usize, Code> {
