@@ -1,18 +1,17 @@
 -- A policy text that writes down a sound tree is accepted, and builds that tree alone.
-use Rattle.std.proofs.Common.{◌≡◌, ℕ, suc, ◌+◌, ◌-◌, ◌≤◌, List, [], ◌∷◌, ◌++◌, map, length, Some, None, Ok, Err, sym, refl, ap, ◌∙◌, add-zero, add-one, arith}
+use Rattle.std.proofs.Common.{◌≡◌, ℕ, suc, ◌+◌, ◌≤◌, List, [], ◌∷◌, ◌++◌, map, length, Some, None, Ok, Err, sym, refl, ap, ◌∙◌, add-zero, add-one, arith}
 use Rattle.std.specs.Option.{option_map}
 use Rattle.std.proofs.lemmas.List.{append-nil, append_assoc, map-append, length-append, length-map, length_push, take_at, drop_at, get_or_at}
-use Rattle.std.proofs.lemmas.Bool.{le-leb, cond-true, and_from}
-use Rattle.interfaces.specs.declared.code.Code.TheVariants.{Size}
+use Rattle.std.proofs.lemmas.Bool.Decides.{nat_tests}
 use Rattle.interfaces.specs.declared.fault.Fault.{Fault}
-use Rattle.interfaces.specs.Faults.{text_refusal, call_refusal}
+use Rattle.interfaces.specs.Faults.{call_refusal}
 use Rattle.text.specs.Cut.{lines}
 use Rattle.policy.specs.Assertions.{Assertion}
 use Rattle.policy.specs.Lines.{Line, start, any, extend, shown, Holds, line_flaw, fewest_trees, most_trees}
 use Rattle.policy.specs.Reading.{judged, read_line, refused_by}
 use Rattle.policy.proofs.ReadsLines.{parse-shown}
-use Rattle.tree.specs.Stacks.{stacked, grown, single, forest, tree_figure}
-use Rattle.tree.specs.Texts.{text_limit, line_limit, size_fits, built, Builds}
+use Rattle.tree.specs.Stacks.{stacked, grown, forest, tree_figure}
+use Rattle.tree.specs.Texts.{text_limit, line_limit, built, Builds}
 use Rattle.tree.specs.Trees.{Tree, leaf, step, choice, Forest, nil, cons, trees, tree_lines, forest_lines, Formed, FormedAll}
 
 -- a forest's trees, lowest first: it is the forest of these, and has as many
@@ -30,25 +29,15 @@ length_listed (cons t f) = ap suc (length_listed f)
 
 -- an assertion after the tree on top of the stack ts
 step-stacked : (ts : List Tree) (t : Tree) (a : Assertion) → stacked tree_figure (extend a) (ts ++ t ∷ []) ≡ Some (ts ++ step t a ∷ [])
-step-stacked ts t a =
-    let s = ts ++ t ∷ [] in
-    let high = length_push ts t in
-    let low : length ts ≡ length s - 1 = omega arith in
-    cond-true _ _ None (le-leb 1 (length s) (omega arith)) ∙ rw (take_at ts (t ∷ []) (length s - 1) low, get_or_at ts t [] leaf (length s - 1) low)
+step-stacked ts t a = grind (arith, nat_tests, length_push, take_at, get_or_at)
 
 -- a choice among the top trees
 choice-stacked : (ts : List Tree) (f : Forest) → stacked tree_figure (any (trees f)) (ts ++ listed f) ≡ Some (ts ++ choice f ∷ [])
-choice-stacked ts f =
-    let s = ts ++ listed f in
-    let k = length s - trees f in
-    let high = length-append ts (listed f) in
-    let few = length_listed f in
-    let low : length ts ≡ k = omega arith in
-    cond-true _ _ None (le-leb (trees f) (length s) (omega arith)) ∙ rw (take_at ts (listed f) k low, drop_at ts (listed f) k low, forest_listed f)
+choice-stacked ts f = grind (arith, nat_tests, length-append, length_listed, take_at, drop_at, forest_listed)
 
 -- a choice among two to eight trees passes as a line
 choice_passes : (size n : ℕ) → fewest_trees ≤ n → n ≤ most_trees → line_flaw size (any n) ≡ None
-choice_passes size n low high = cond-true _ None (Some (text_refusal Size)) (and_from _ _ (le-leb fewest_trees n low) (le-leb n most_trees high))
+choice_passes size n low high = grind (arith, nat_tests)
 
 -- the lines ls, as written, make the stack us of the stack ts, behind any n lines and whatever
 -- follows them
@@ -92,15 +81,16 @@ lines_some leaf = omega arith
 lines_some (step t a) = omega (arith, length_push (tree_lines t) (extend a))
 lines_some (choice f) = omega (arith, length_push (forest_lines f) (any (trees f)))
 
+-- a text of an allowed size is accepted where its lines leave one tree
+accepted : (size : ℕ) (text : List ℕ) (t : Tree) → length text ≤ text_limit → 1 ≤ length (lines text) → length (lines text) ≤ line_limit → grown tree_figure size 0 (lines text) [] ≡ Ok (t ∷ []) → built size text ≡ Ok t
+accepted size text t short some few e = grind (arith, nat_tests)
+
 -- a text that writes down a sound tree is accepted, and builds it
 pub built_complete : (size : ℕ) (text : List ℕ) (t : Tree) → Builds size text t → built size text ≡ Ok t
 built_complete size text t b =
-    let count = ap length b.written ∙ length-map (tree_lines t) shown in
-    let some : 1 ≤ length (lines text) = omega (arith, lines_some t) in
-    let fits = and_from _ _ (le-leb _ text_limit b.short) (and_from _ _ (le-leb 1 _ some) (le-leb _ line_limit b.few)) in
+    let some : 1 ≤ length (lines text) = omega (arith, ap length b.written, length-map (tree_lines t) shown, lines_some t) in
     let whole = b.written ∙ sym (append-nil (map shown (tree_lines t))) in
-    let ends = ap (λ k. grown tree_figure size 0 k []) whole ∙ grown_complete t size b.formed [] 0 [] in
-    cond-true (size_fits text) _ _ fits ∙ ap (single tree_figure (length (lines text))) ends
+    accepted size text t b.short some b.few (ap (λ k. grown tree_figure size 0 k []) whole ∙ grown_complete t size b.formed [] 0 [])
 
 -- a text writes down one sound tree at most
 pub built-once : (size : ℕ) (text : List ℕ) (t u : Tree) → Builds size text t → Builds size text u → t ≡ u
@@ -110,5 +100,4 @@ built-once size text t u b c = cc (built_complete size text t b, built_complete 
 pub refused : (size : ℕ) (text : List ℕ) (e : Fault) → built size text ≡ Err e → (t : Tree) → Builds size text t → ⊥
 refused size text e r t b =
     let ok = built_complete size text t b in
-    let z : ◌≡◌ {A = ℕ} 0 1 = cc in
-    omega arith
+    cc

@@ -1,22 +1,22 @@
 -- A policy text that is accepted writes down the tree that it builds, and the tree is sound.
-use Rattle.std.proofs.Common.{◌≡◌, ℕ, suc, ◌-◌, ◌≤◌, Bool, true, false, cond, ◌&&◌, eqb, leb, List, [], ◌∷◌, ◌++◌, map, length, get_or, take, drop, Some, None, Ok, Err, Option, Result, sym, refl, ap, ◌∙◌, subst, arith}
+use Rattle.std.proofs.Common.{◌≡◌, ℕ, suc, ◌-◌, ◌≤◌, leb, List, [], ◌∷◌, ◌++◌, map, length, get_or, take, drop, Some, None, Ok, Err, Option, Result, sym, refl, ap, ◌∙◌, subst, arith}
 use Rattle.std.specs.Option.{option_map}
 use Rattle.std.proofs.lemmas.List.{append-nil, append_assoc, map-append, length-drop, take_all, take_more, take-append-drop}
-use Rattle.std.proofs.lemmas.Bool.{leb-true, ne_eqb, cond-false, and_parts}
+use Rattle.std.proofs.lemmas.Option.{cond_some}
+use Rattle.std.proofs.lemmas.Bool.{leb-true}
+use Rattle.std.proofs.lemmas.Bool.Decides.{nat_tests}
 use Rattle.interfaces.specs.declared.code.Code.{Code}
-use Rattle.interfaces.specs.declared.code.Code.TheVariants.{Size}
 use Rattle.interfaces.specs.declared.fault.Refusal.{Refusal}
 use Rattle.interfaces.specs.declared.fault.Fault.{Fault}
-use Rattle.interfaces.specs.Faults.{form_refusal, text_refusal, call_refusal, fault_at}
+use Rattle.interfaces.specs.Faults.{call_refusal}
 use Rattle.text.specs.Cut.{lines}
 use Rattle.policy.specs.Checks.{flaw}
 use Rattle.policy.specs.Lines.{Line, start, any, extend, shown, Holds, line_flaw, fewest_trees, most_trees}
 use Rattle.policy.specs.Reading.{read_line, Reads}
 use Rattle.policy.proofs.ReadsLines.{reads}
-use Rattle.tree.specs.Stacks.{Figure, stacked, allowed, on_stack, line_step, followed, grown, single, forest, tree_figure}
-use Rattle.tree.specs.Texts.{size_fits, built, Builds}
+use Rattle.tree.specs.Stacks.{Figure, stacked, on_stack, line_step, followed, grown, single, forest, tree_figure}
+use Rattle.tree.specs.Texts.{text_limit, line_limit, built, Builds}
 use Rattle.tree.specs.Trees.{Tree, leaf, step, choice, trees, tree_lines, forest_lines, Formed, FormedAll}
-use Rattle.tree.proofs.Homs.{chosen}
 
 -- a forest has as many trees as it was made of
 trees-forest : (ts : List Tree) → trees (forest ts) ≡ length ts
@@ -55,25 +55,18 @@ replaced_put size l ts us vs ts' t before after ends sound f =
 
 -- the trees that a line may join are two to eight
 any_fits : (size n : ℕ) → line_flaw size (any n) ≡ None → (fewest_trees ≤ n) × (n ≤ most_trees)
-any_fits size n e = go (leb fewest_trees n && leb n most_trees) refl e
-  where
-    go : (b : Bool) → (leb fewest_trees n && leb n most_trees) ≡ b → cond b None (Some (text_refusal Size)) ≡ None → (fewest_trees ≤ n) × (n ≤ most_trees)
-    go true t f =
-        let p = and_parts _ _ t in
-        (leb-true _ _ p.0, leb-true _ _ p.1)
-    go false t f = absurd (let z : ◌≡◌ {A = ℕ} 0 1 = cc in omega arith)
+any_fits size n e = grind (arith, nat_tests)
 
 -- an assertion's line is refused where the assertion is
 unflawed : (o : Option Code) → option_map call_refusal o ≡ None → o ≡ None
-unflawed None e = refl
-unflawed (Some c) e = absurd (let z : ◌≡◌ {A = ℕ} 0 1 = cc in omega arith)
+unflawed o e = grind arith
 
 -- a line that passes its checks leaves a sound stack sound, and stands behind the stack's lines
 stacked_sound : (size : ℕ) (l : Line) (ts ts' : List Tree) → Holds l → line_flaw size l ≡ None → stacked tree_figure l ts ≡ Some ts' → FormedAll size (forest ts) → Put size l ts ts'
 stacked_sound size start ts ts' h c e f = replaced_put size start ts ts [] ts' leaf (append-nil ts) (cc) refl (λ _. tt) f
 stacked_sound size (extend a) ts ts' h c e f =
     let k = length ts - 1 in
-    let r = chosen (leb 1 (length ts)) _ ts' e in
+    let r = cond_some (leb 1 (length ts)) _ ts' e in
     let some = leb-true 1 (length ts) r.0 in
     let top = get_or ts k leaf in
     let parts = sym (take_more ts k leaf (omega arith)) ∙ take_all _ ts (omega arith) in
@@ -81,7 +74,7 @@ stacked_sound size (extend a) ts ts' h c e f =
     replaced_put size (extend a) ts (take k ts) (top ∷ []) ts' (step top a) parts r.1 ends (λ g. (g.0, h, unflawed (flaw size a) c)) f
 stacked_sound size (any n) ts ts' h c e f =
     let k = length ts - n in
-    let r = chosen (leb n (length ts)) _ ts' e in
+    let r = cond_some (leb n (length ts)) _ ts' e in
     let some = leb-true n (length ts) r.0 in
     let fits = any_fits size n c in
     let joined = drop k ts in
@@ -91,17 +84,11 @@ stacked_sound size (any n) ts ts' h c e f =
 
 -- a line that is refused, or that finds too few trees, leaves no stack
 on_stack_ok : {A : Type 0} (F : Figure A) (r : Result Line Refusal) (s s' : List A) → on_stack F r s ≡ Ok s' → (l : Line) × (r ≡ Ok l) × (stacked F l s ≡ Some s')
-on_stack_ok F (Err e) s s' h = absurd (let z : ◌≡◌ {A = ℕ} 0 1 = cc in omega arith)
-on_stack_ok {A} F (Ok l) s s' h = (l, refl, some (stacked F l s) h)
-  where
-    some : (o : Option (List A)) → allowed o ≡ Ok s' → o ≡ Some s'
-    some None f = absurd (let z : ◌≡◌ {A = ℕ} 0 1 = cc in omega arith)
-    some (Some x) f = cc
+on_stack_ok F r s s' h = grind arith
 
 -- what follows a line comes of its result
 followed_ok : {A B : Type 0} (n : ℕ) (r : Result A Refusal) (next : A → Result B Fault) (y : B) → followed n r next ≡ Ok y → (x : A) × (r ≡ Ok x) × (next x ≡ Ok y)
-followed_ok n (Err e) next y h = absurd (let z : ◌≡◌ {A = ℕ} 0 1 = cc in omega arith)
-followed_ok n (Ok x) next y h = (x, refl, h)
+followed_ok n r next y h = grind arith
 
 -- a text's line that is read is written as the line, and passes its checks
 read_line_lem : (size : ℕ) (s : List ℕ) (l : Line) → read_line size s ≡ Ok l → Holds l × (shown l ≡ s) × (line_flaw size l ≡ None)
@@ -125,24 +112,19 @@ grown_sound size n (s ∷ ls) ts ts' e f =
     let this = ap (λ k. before ++ k ∷ []) (sym l.1) ∙ sym (map-append shown (forest_lines (forest ts)) (p.0 ∷ [])) ∙ ap (map shown) put.1 in
     (rest.0, sym (append_assoc before (s ∷ []) ls) ∙ ap (λ k. k ++ ls) this ∙ rest.1)
 
--- one value is left
+-- an accepted text has an allowed size, and one tree is left
+accepted : (size : ℕ) (text : List ℕ) (t : Tree) → built size text ≡ Ok t → (length text ≤ text_limit) × (length (lines text) ≤ line_limit) × (single tree_figure (length (lines text)) (grown tree_figure size 0 (lines text) []) ≡ Ok t)
+accepted size text t e = grind (arith, nat_tests)
+
 single_ok : {A : Type 0} (F : Figure A) (n : ℕ) (r : Result (List A) Fault) (x : A) → single F n r ≡ Ok x → r ≡ Ok (x ∷ [])
-single_ok F n (Err e) x h = absurd (let z : ◌≡◌ {A = ℕ} 0 1 = cc in omega arith)
-single_ok F n (Ok []) x h = absurd (let z : ◌≡◌ {A = ℕ} 0 1 = cc in omega arith)
+single_ok F n (Err e) x h = cc
+single_ok F n (Ok []) x h = cc
 single_ok F n (Ok (y ∷ [])) x h = cc
-single_ok F n (Ok (y ∷ u ∷ s)) x h =
-    let more = cond-false (eqb (length (y ∷ u ∷ s)) 1) (Ok y) (Err (fault_at n form_refusal)) (ne_eqb (length (y ∷ u ∷ s)) 1 (λ e. omega arith)) in
-    absurd (let z : ◌≡◌ {A = ℕ} 0 1 = cc in omega arith)
+single_ok F n (Ok (y ∷ u ∷ s)) x h = grind (arith, nat_tests)
 
 -- an accepted text is the tree that it builds, written down
 pub built_sound : (size : ℕ) (text : List ℕ) (t : Tree) → built size text ≡ Ok t → Builds size text t
-built_sound size text t e = go (size_fits text) refl e
-  where
-    go : (b : Bool) → size_fits text ≡ b → cond b (single tree_figure (length (lines text)) (grown tree_figure size 0 (lines text) [])) (Err (fault_at 0 (text_refusal Size))) ≡ Ok t → Builds size text t
-    go true fits h =
-        let p = and_parts _ _ fits in
-        let q = and_parts _ _ p.1 in
-        let one = single_ok tree_figure (length (lines text)) _ t h in
-        let g = grown_sound size 0 (lines text) [] (t ∷ []) one tt in
-        record { formed = g.0.0; short = leb-true _ _ p.0; few = leb-true _ _ q.1; written = g.1 ∙ ap (map shown) (append-nil (tree_lines t)) }
-    go false fits h = absurd (let z : ◌≡◌ {A = ℕ} 0 1 = cc in omega arith)
+built_sound size text t e =
+    let a = accepted size text t e in
+    let g = grown_sound size 0 (lines text) [] (t ∷ []) (single_ok tree_figure (length (lines text)) _ t a.2) tt in
+    record { formed = g.0.0; short = a.0; few = a.1; written = g.1 ∙ ap (map shown) (append-nil (tree_lines t)) }

@@ -6,9 +6,7 @@ ghost use Rattle.text.specs.Cut.{lines as text_lines};
 ghost use Rattle.tree.specs.Answers.{figures, figures_of, digested, answer_of, written_of, Means};
 ghost use Rattle.tree.specs.Texts.{size_fits, built};
 
-use crate::fold::take_lines;
-use crate::grow::empty_stack;
-use crate::stack::LINE_LIMIT;
+use crate::stack::{LINE_LIMIT, Stack};
 use crate::summary::Summary;
 use interfaces::buffer::clear;
 use interfaces::code::Code;
@@ -34,36 +32,15 @@ fn fold_text<H: Hash>(hash: &H, text: &[u8]) -> Result<(Digest, Summary), Fault>
     if !size_fits(text, lines) {
         return Err(Refusal::text(Code::Size).at(0));
     }
-    let mut stack = empty_stack();
-    take_lines(hash, &mut stack, text)?;
-    if stack.height != 1 {
+    let stack = Stack::of_text(hash, text)?;
+    let [digest] = stack.digests.as_slice() else {
         return Err(Refusal::form().at(lines));
-    }
+    };
     let summary = Summary {
         lines,
         branches: stack.branches,
     };
-    Ok((stack.digests[0], summary))
-}
-
-fn write_digest<H: Hash>(hash: &H, text: &[u8], out: &mut [u8]) -> Result<Summary, Fault>
-    ensures answer { result ≡ answer_of text.now (digested text.now (length out.old)) }
-    ensures written { out.new ≡ written_of (H.meaning hash.now) (length out.old) (digested text.now (length out.old)) }
-{
-    if out.len() != DIGEST_LENGTH {
-        clear(out);
-        return Err(Refusal::call(Code::Size).at(0));
-    }
-    match fold_text(hash, text) {
-        Ok((digest, summary)) => {
-            out.copy_from_slice(&digest.bytes);
-            Ok(summary)
-        }
-        Err(fault) => {
-            clear(out);
-            Err(fault)
-        }
-    }
+    Ok((*digest, summary))
 }
 
 // Digests a policy text: the number of its lines and branches, and the digest in the buffer, or the
@@ -73,5 +50,11 @@ pub fn digest_text<H: Hash>(hash: &H, text: &[u8], out: &mut [u8]) -> Result<Sum
     ensures written { out.new ≡ written_of (H.meaning hash.now) (length out.old) (digested text.now (length out.old)) }
     ensures means { Means (H.meaning hash.now) text.now (length out.old) result out.new }
 {
-    write_digest(hash, text, out)
+    clear(out);
+    if out.len() != DIGEST_LENGTH {
+        return Err(Refusal::call(Code::Size).at(0));
+    }
+    let (digest, summary) = fold_text(hash, text)?;
+    out.copy_from_slice(&digest.bytes);
+    Ok(summary)
 }

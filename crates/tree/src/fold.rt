@@ -1,55 +1,38 @@
 // All lines of a policy text, from the first to the last.
-ghost use Rattle.std.specs.Prelude.{◌≡◌, ◌+◌, ◌<◌, ◌≤◌, [], length};
-ghost use Rattle.interfaces.specs.Faults.{fault_at};
+ghost use Rattle.std.specs.Prelude.{◌≡◌, ◌≤◌, [], length};
+ghost use Rattle.interfaces.specs.Checks.{meant};
 ghost use Rattle.interfaces.specs.Hashing.{digest_length};
 ghost use Rattle.policy.specs.Reading.{read_line};
 ghost use Rattle.text.specs.Cut.{lines};
-ghost use Rattle.tree.specs.Stacks.{line_step, grown, digest_figure, tree_figure};
-ghost use Rattle.tree.specs.Views.{stack_of, Grew, begins, Folded};
+ghost use Rattle.tree.specs.Stacks.{grown, tree_figure};
+ghost use Rattle.tree.specs.Texts.{line_limit};
+ghost use Rattle.tree.specs.Views.{HasRoom, Took, shows, shows_of};
 
-use crate::grow::grow;
 use crate::stack::Stack;
 use interfaces::fault::{Fault, Refusal};
 use interfaces::hash::Hash;
 use policy::line::read_line;
-use text::cut::first_line;
+use text::cut::Lines;
 
-fn take_line<H: Hash>(hash: &H, stack: &mut Stack, line: &[u8]) -> Result<(), Refusal>
-    requires room { stack.old.height < 64 }
-    requires count { stack.old.branches < 64 }
-    ensures grew { Grew (line_step (digest_figure (H.meaning hash.now)) digest_length line.now (stack_of stack.old)) (stack_of stack.old) result (stack_of stack.new) }
-    ensures height { stack.new.height ≤ stack.old.height + 1 }
-    ensures branches { stack.new.branches ≡ stack.old.branches + begins (read_line digest_length line.now) }
-{
-    match read_line(line) {
-        Ok(line) => grow(hash, stack, line),
-        Err(refusal) => Err(refusal),
+impl Stack {
+    fn take_line<H: Hash>(&mut self, hash: &H, line: &[u8]) -> Result<(), Refusal>
+        requires { HasRoom self.old }
+        ensures { Took (H.meaning hash.now) (read_line digest_length line.now) self.old result self.new }
+    {
+        self.grow(hash, read_line(line)?)
     }
-}
 
-// The fault of the line that follows the first `before` lines.
-fn fault_behind(before: usize, refusal: Refusal) -> Fault
-    requires { before < 64 }
-    ensures { result ≡ fault_at (before + 1) refusal }
-{
-    refusal.at(before + 1)
-}
-
-pub(crate) fn take_lines<H: Hash>(hash: &H, stack: &mut Stack, text: &[u8]) -> Result<(), Fault>
-    requires few { length (lines text.now) ≤ 64 }
-    requires empty { stack_of stack.old ≡ [] }
-    requires height { stack.old.height ≡ 0 }
-    requires branches { stack.old.branches ≡ 0 }
-    ensures { Folded (H.meaning hash.now) (grown tree_figure digest_length 0 (lines text.now) []) result stack.new }
-{
-    let mut count = 0;
-    let mut rest = text;
-    while let Some((line, after)) = first_line(rest) {
-        if let Err(refusal) = take_line(hash, stack, line) {
-            return Err(fault_behind(count, refusal));
+    // The stack after all lines of a text, or the fault of the first that is refused.
+    pub(crate) fn of_text<H: Hash>(hash: &H, text: &[u8]) -> Result<Stack, Fault>
+        requires { length (lines text.now) ≤ line_limit }
+        ensures { meant shows result ≡ meant (shows_of (H.meaning hash.now)) (grown tree_figure digest_length 0 (lines text.now) []) }
+    {
+        let mut stack = Stack::empty();
+        for (i, line) in Lines::new(text).enumerate() {
+            stack
+                .take_line(hash, line)
+                .map_err(|refusal| refusal.at(i + 1))?;
         }
-        count += 1;
-        rest = after;
+        Ok(stack)
     }
-    Ok(())
 }

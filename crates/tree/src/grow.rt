@@ -1,12 +1,13 @@
 // Lines put on the stack.
-ghost use Rattle.std.specs.Prelude.{◌≡◌, ◌+◌, ◌-◌, ◌<◌, ◌≤◌, [], None};
-ghost use Rattle.interfaces.specs.Hashing.{digest_length, zeros};
+ghost use Rattle.std.specs.Prelude.{◌≡◌, ◌<◌, ◌≤◌, [], ◌∷◌, ◌++◌, take, None};
+ghost use Rattle.interfaces.specs.Hashing.{digest_length};
 ghost use Rattle.policy.specs.Views.{line_of, assertion_of};
-ghost use Rattle.policy.specs.Lines.{any, extend, line_flaw};
-ghost use Rattle.tree.specs.Stacks.{stacked, allowed, digest_figure};
-ghost use Rattle.tree.specs.Views.{stack_of, replaced, Grew, starts};
+ghost use Rattle.policy.specs.Lines.{start, any, extend, fewest_trees, most_trees, line_flaw};
+ghost use Rattle.tree.specs.Texts.{line_limit};
+ghost use Rattle.tree.specs.Views.{stack_of, HasRoom, Put, shows};
 
-use crate::stack::{LINE_LIMIT, Stack};
+use crate::stack::Stack;
+use arrays::array_vec::ArrayVec;
 use interfaces::digest::Digest;
 use interfaces::fault::Refusal;
 use interfaces::hash::Hash;
@@ -14,90 +15,68 @@ use policy::assertion::Assertion;
 use policy::extend::{extend_digest, join_digests, zero_digest};
 use policy::line::Line;
 
-pub(crate) fn empty_stack() -> Stack
-    ensures empty { stack_of result ≡ [] }
-    ensures height { result.height ≡ 0 }
-    ensures none { result.branches ≡ 0 }
-{
-    Stack {
-        digests: [Digest::zero(); LINE_LIMIT],
-        height: 0,
-        branches: 0,
-    }
-}
-
-// One tree more, in the place of the top `taken` trees.
-fn replace_top(stack: &mut Stack, taken: usize, digest: Digest)
-    requires within { taken ≤ stack.old.height }
-    requires room { stack.old.height < 64 + taken }
-    ensures digests { stack_of stack.new ≡ replaced taken (stack_of stack.old) digest.bytes }
-    ensures height { stack.new.height ≡ stack.old.height - taken + 1 }
-    ensures branches { stack.new.branches ≡ stack.old.branches }
-{
-    let at = stack.height - taken;
-    stack.digests[at] = digest;
-    stack.height = at + 1;
-}
-
-fn begin_tree<H: Hash>(hash: &H, stack: &mut Stack)
-    requires room { stack.old.height < 64 }
-    requires count { stack.old.branches < 64 }
-    ensures digests { stack_of stack.new ≡ replaced 0 (stack_of stack.old) (zeros (H.meaning hash.now)) }
-    ensures height { stack.new.height ≡ stack.old.height + 1 }
-    ensures branches { stack.new.branches ≡ stack.old.branches + 1 }
-{
-    replace_top(stack, 0, zero_digest(hash));
-    stack.branches += 1;
-}
-
-fn extend_top<H: Hash>(hash: &H, stack: &mut Stack, assertion: &Assertion) -> Result<(), Refusal>
-    ensures grew { Grew (allowed (stacked (digest_figure (H.meaning hash.now)) (extend (assertion_of assertion.now)) (stack_of stack.old))) (stack_of stack.old) result (stack_of stack.new) }
-    ensures height { stack.new.height ≤ stack.old.height + 1 }
-    ensures branches { stack.new.branches ≡ stack.old.branches }
-{
-    if stack.height < 1 {
-        return Err(Refusal::form());
-    }
-    let top = stack.digests[stack.height - 1];
-    let digest = extend_digest(hash, &top, assertion);
-    replace_top(stack, 1, digest);
-    Ok(())
-}
-
-fn join_top<H: Hash>(hash: &H, stack: &mut Stack, trees: usize) -> Result<(), Refusal>
-    requires few { 2 ≤ trees }
-    requires many { trees ≤ 8 }
-    ensures grew { Grew (allowed (stacked (digest_figure (H.meaning hash.now)) (any trees) (stack_of stack.old))) (stack_of stack.old) result (stack_of stack.new) }
-    ensures height { stack.new.height ≤ stack.old.height + 1 }
-    ensures branches { stack.new.branches ≡ stack.old.branches }
-{
-    let height = stack.height;
-    if height < trees {
-        return Err(Refusal::form());
-    }
-    match join_digests(hash, &stack.digests[height - trees..height]) {
-        Ok(digest) => {
-            replace_top(stack, trees, digest);
-            Ok(())
+impl Stack {
+    pub(crate) fn empty() -> Stack
+        ensures { shows result ≡ ([], 0) }
+    {
+        Stack {
+            digests: ArrayVec::new(Digest::zero()),
+            branches: 0,
         }
-        Err(code) => Err(Refusal::text(code)),
     }
-}
 
-pub(crate) fn grow<H: Hash>(hash: &H, stack: &mut Stack, line: Line) -> Result<(), Refusal>
-    requires room { stack.old.height < 64 }
-    requires count { stack.old.branches < 64 }
-    requires sound { line_flaw digest_length (line_of line) ≡ None }
-    ensures grew { Grew (allowed (stacked (digest_figure (H.meaning hash.now)) (line_of line) (stack_of stack.old))) (stack_of stack.old) result (stack_of stack.new) }
-    ensures height { stack.new.height ≤ stack.old.height + 1 }
-    ensures branches { stack.new.branches ≡ stack.old.branches + starts (line_of line) }
-{
-    match line {
-        Line::Start => {
-            begin_tree(hash, stack);
-            Ok(())
+    fn begin_tree<H: Hash>(&mut self, hash: &H)
+        requires { HasRoom self.old }
+        ensures { Put (H.meaning hash.now) start self.old (Ok tt) self.new }
+    {
+        self.digests.push(zero_digest(hash)).unwrap();
+        self.branches += 1;
+    }
+
+    // One tree in the place of all but the first `low`.
+    fn replace(&mut self, low: usize, digest: Digest)
+        requires { low < line_limit }
+        ensures digests { stack_of self.new ≡ take low (stack_of self.old) ++ digest.bytes ∷ [] }
+        ensures branches { self.new.branches ≡ self.old.branches }
+    {
+        self.digests.truncate(low);
+        self.digests.push(digest).unwrap();
+    }
+
+    fn extend_top<H: Hash>(&mut self, hash: &H, assertion: &Assertion) -> Result<(), Refusal>
+        ensures { Put (H.meaning hash.now) (extend (assertion_of assertion.now)) self.old result self.new }
+    {
+        let height = self.digests.len();
+        let low = height.checked_sub(1).ok_or(Refusal::form())?;
+        let digest = extend_digest(hash, &self.digests.as_slice()[low], assertion);
+        self.replace(low, digest);
+        Ok(())
+    }
+
+    fn join_top<H: Hash>(&mut self, hash: &H, trees: usize) -> Result<(), Refusal>
+        requires few { fewest_trees ≤ trees }
+        requires many { trees ≤ most_trees }
+        ensures { Put (H.meaning hash.now) (any trees) self.old result self.new }
+    {
+        let height = self.digests.len();
+        let low = height.checked_sub(trees).ok_or(Refusal::form())?;
+        let digest = join_digests(hash, &self.digests.as_slice()[low..]).map_err(Refusal::text)?;
+        self.replace(low, digest);
+        Ok(())
+    }
+
+    pub(crate) fn grow<H: Hash>(&mut self, hash: &H, line: Line) -> Result<(), Refusal>
+        requires room { HasRoom self.old }
+        requires sound { line_flaw digest_length (line_of line) ≡ None }
+        ensures { Put (H.meaning hash.now) (line_of line) self.old result self.new }
+    {
+        match line {
+            Line::Start => {
+                self.begin_tree(hash);
+                Ok(())
+            }
+            Line::Any(trees) => self.join_top(hash, trees),
+            Line::Extend(assertion) => self.extend_top(hash, &assertion),
         }
-        Line::Any(trees) => join_top(hash, stack, trees),
-        Line::Extend(assertion) => extend_top(hash, stack, &assertion),
     }
 }

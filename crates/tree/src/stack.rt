@@ -1,6 +1,5 @@
 // The stack of trees that a policy text builds, by their digests.
-ghost use Rattle.std.specs.Prelude.{◌≤◌, length};
-
+use arrays::array_vec::ArrayVec;
 use interfaces::digest::Digest;
 
 pub const LINE_LIMIT: usize = 64;
@@ -9,9 +8,6 @@ pub const LINE_LIMIT: usize = 64;
 // of all of them.
 #[derive(Drop)]
 pub(crate) struct Stack {
-    pub(crate) digests: [Digest; LINE_LIMIT],
-    pub(crate) height: usize,
+    pub(crate) digests: ArrayVec<Digest, LINE_LIMIT>,
     pub(crate) branches: usize,
-    ghost few: { height ≤ 64 },
-    ghost within: { height ≤ length digests },
 }
