@@ -78,7 +78,7 @@ module _ (w : List ℕ) (fs : List (List ℕ)) (c : Call) where
   or_from v e = go (unpaired_all fs) refl e
     where
       go : (o : Option (List (List ℕ))) → unpaired_all fs ≡ o → option_map or o ≡ Some c → IsCall (w ++ tabs fs) c
-      go None t f = absurd (let z : ◌≡◌ {A = ℕ} 0 1 = cc in omega arith)
+      go None t f = absurd cc
       go (Some ds) t f =
           let r = digests_from fs ds t in
           subst (IsCall (w ++ tabs fs)) (some_from _ c f) (record { holds = r.1; written = call_tabs (or ds) ∙ (λ i. sym v i ++ tabs (r.0 i)) })
@@ -87,7 +87,7 @@ module _ (w : List ℕ) (fs : List (List ℕ)) (c : Call) where
   assert_from e = go (parse_assertion w fs) refl e
     where
       go : (o : Option Assertion) → parse_assertion w fs ≡ o → option_map assert o ≡ Some c → IsCall (w ++ tabs fs) c
-      go None t f = absurd (let z : ◌≡◌ {A = ℕ} 0 1 = cc in omega arith)
+      go None t f = absurd cc
       go (Some a) t f =
           let r = shown_assertion_lem w fs a t in
           subst (IsCall (w ++ tabs fs)) (some_from _ c f) (record { holds = r.0; written = r.1 })
@@ -100,7 +100,7 @@ pub shown-parse : (s : List ℕ) (c : Call) → parse_call s ≡ Some c → IsCa
 shown-parse s c e = go (fields s) refl e
   where
     go : (fs : List (List ℕ)) → fields s ≡ fs → parse_call_fields fs ≡ Some c → IsCall s c
-    go [] t f = absurd (let z : ◌≡◌ {A = ℕ} 0 1 = cc in omega arith)
+    go [] t f = absurd cc
     go (w ∷ fs) t f = subst (λ k. IsCall k c) (tabs_fields s w fs t) (word_written w fs c f)
 
 -- a text that is a call is read as it
@@ -116,5 +116,5 @@ reads size s = go (parse_call s) refl
     judge c (Some e) i f = inl (c, i, f)
 
     go : (o : Option Call) → parse_call s ≡ o → ReadsCall size s (judged (call_line_flaw size) o)
-    go None t = inr (refl, λ c i. let p = is_parse s c i in let z : ◌≡◌ {A = ℕ} 0 1 = cc in omega arith)
+    go None t = inr (refl, λ c i. let p = is_parse s c i in cc)
     go (Some c) t = judge c (call_line_flaw size c) (shown-parse s c t) refl

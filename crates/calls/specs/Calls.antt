@@ -1,7 +1,7 @@
 -- Policy calls: an assertion, or an `or` that allows each of several digests; and how each is written
 -- as a line of a run.
-use Rattle.std.specs.Prelude.{◌≡◌, ℕ, Bool, true, ◌&&◌, List, [], ◌∷◌, ◌++◌, length, codes, Option, Result, ◌==◌, nat_le}
-use Rattle.std.specs.List.{flat_map, AllByRecursion}
+use Rattle.std.specs.Prelude.{◌≡◌, ℕ, Bool, ◌&&◌, List, ◌++◌, length, codes, Option, Result, ◌==◌, nat_le}
+use Rattle.std.specs.List.{flat_map, list_all, AllByRecursion}
 use Rattle.interfaces.specs.declared.code.Code.{Code}
 use Rattle.interfaces.specs.declared.code.Code.TheVariants.{Size}
 use Rattle.interfaces.specs.Checks.{Bytes, refused_with, unless}
@@ -18,8 +18,7 @@ pub data Call : Type 0 where
 
 -- Every digest has `size` bytes.
 abbrev pub all_sized : ℕ → List (List ℕ) → Bool
-all_sized size [] = true
-all_sized size (d ∷ ds) = length d == size && all_sized size ds
+all_sized size ds = list_all (λ d. length d == size) ds
 
 -- The first refusal of a call's fields, where digests have `size` bytes.
 abbrev pub call_flaw : ℕ → Call → Option Code

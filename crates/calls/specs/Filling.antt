@@ -1,5 +1,7 @@
--- Fields decoded into an array of digests.
-use Rattle.std.specs.Prelude.{◌≡◌, ℕ, ◌<◌, ◌≤◌, true, false, ◌⊎◌, List, map, length, take, Some, Option, MatchOption}
+-- Fields decoded into digests.
+use Rattle.std.specs.Prelude.{◌≡◌, ℕ, ◌<◌, true, false, ◌⊎◌, List, map, length, Some, Option, MatchOption}
+use Rattle.arrays.specs.declared.array_vec.ArrayVec.{ArrayVec}
+use Rattle.arrays.specs.Items.{items}
 use Rattle.interfaces.specs.declared.digest.Digest.{Digest}
 use Rattle.interfaces.specs.Hashing.{digest_length}
 use Rattle.policy.specs.Views.{digest_bytes}
@@ -7,16 +9,15 @@ use Rattle.calls.specs.Calls.{all_sized}
 use Rattle.calls.specs.Limits.{most_digests}
 use Rattle.calls.specs.Reading.{unpaired_all}
 
--- The fields are the first n digests of the array.
-pub record Filled (fs : List (List ℕ)) (digests : List Digest) (n : ℕ) : Type 0 where
-  pub few : n ≤ most_digests
-  pub sized : all_sized digest_length (map digest_bytes (take n digests)) ≡ true
-  pub decoded : unpaired_all fs ≡ Some (map digest_bytes (take n digests))
+-- The fields are these digests.
+pub record Filled (fs ds : List (List ℕ)) : Type 0 where
+  pub sized : all_sized digest_length ds ≡ true
+  pub decoded : unpaired_all fs ≡ Some ds
 
 -- Fields that are byte strings are too many, or one of them is no digest.
 abbrev pub Unfit : List (List ℕ) → Type 0
 Unfit fs = (ds : List (List ℕ)) → unpaired_all fs ≡ Some ds → (most_digests < length ds) ⊎ (all_sized digest_length ds ≡ false)
 
--- Filling answers how many digests there are, or none.
-abbrev pub Fills : List (List ℕ) → Option ℕ → List Digest → Type 0
-Fills fs r digests = MatchOption r (Unfit fs) (Filled fs digests)
+-- Filling answers the digests that the fields are, or none.
+abbrev pub Fills : List (List ℕ) → Option (ArrayVec Digest most_digests) → Type 0
+Fills fs r = MatchOption r (Unfit fs) (λ a. Filled fs (map digest_bytes (items a)))

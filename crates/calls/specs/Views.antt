@@ -1,5 +1,6 @@
 -- What the code's calls mean.
-use Rattle.std.specs.Prelude.{ℕ, List, map, take}
+use Rattle.std.specs.Prelude.{ℕ, List, map}
+use Rattle.arrays.specs.Items.{items}
 use Rattle.policy.specs.Views.{assertion_of, digest_bytes}
 use Rattle.calls.specs.declared.digests.Digests.{Digests}
 use Rattle.calls.specs.declared.call.Call as code
@@ -7,7 +8,7 @@ use Rattle.calls.specs.declared.call.Call.TheVariants.{Assert, Or}
 use Rattle.calls.specs.Calls.{Call, assert, or}
 
 abbrev pub digests_of : Digests → List (List ℕ)
-digests_of d = map digest_bytes (take d.len d.digests)
+digests_of d = map digest_bytes (items d.digests)
 
 abbrev pub call_of : code.Call → Call
 call_of (Assert a) = assert (assertion_of a)

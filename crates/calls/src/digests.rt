@@ -1,7 +1,9 @@
 // The digests of an `or`: two to eight.
-ghost use Rattle.std.specs.Prelude.{◌≡◌, ◌≤◌, length};
-ghost use Rattle.calls.specs.Limits.{fewest_digests, most_digests};
+ghost use Rattle.std.specs.Prelude.{◌≤◌, length};
+ghost use Rattle.arrays.specs.Items.{items};
+ghost use Rattle.calls.specs.Limits.{fewest_digests};
 
+use arrays::array_vec::ArrayVec;
 use interfaces::digest::Digest;
 
 pub const FEWEST_DIGESTS: usize = 2;
@@ -10,9 +12,6 @@ pub const MOST_DIGESTS: usize = 8;
 
 #[derive(Clone, Copy)]
 pub struct Digests {
-    pub(crate) digests: [Digest; MOST_DIGESTS],
-    pub(crate) len: usize,
-    ghost all: { length digests ≡ most_digests },
-    ghost some: { fewest_digests ≤ len },
-    ghost within: { len ≤ most_digests },
+    pub(crate) digests: ArrayVec<Digest, MOST_DIGESTS>,
+    ghost some: { fewest_digests ≤ length (items digests) },
 }

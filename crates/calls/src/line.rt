@@ -13,21 +13,13 @@ use crate::read_or::read_digests;
 use interfaces::fault::Refusal;
 use policy::read::read_assertion;
 use text::cut::first_field;
-use text::word::same;
 
 fn read_word(word: &[u8], rest: Option<&[u8]>) -> Result<Call, Refusal>
     ensures { meant call_of result ≡ judged (call_line_flaw digest_length) (parse_call_word word.now (further (option_map (λ x. x.now) rest.entry))) }
 {
-    if same(word, b"or") {
-        match read_digests(rest) {
-            Ok(digests) => Ok(Call::Or(digests)),
-            Err(refusal) => Err(refusal),
-        }
-    } else {
-        match read_assertion(word, rest) {
-            Ok(assertion) => Ok(Call::Assert(assertion)),
-            Err(refusal) => Err(refusal),
-        }
+    match word {
+        b"or" => Ok(Call::Or(read_digests(rest)?)),
+        _ => Ok(Call::Assert(read_assertion(word, rest)?)),
     }
 }
 

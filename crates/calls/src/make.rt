@@ -2,17 +2,18 @@
 ghost use Rattle.std.specs.Prelude.{◌≡◌, ◌≤◌, map, length};
 ghost use Rattle.interfaces.specs.Checks.{meant};
 ghost use Rattle.policy.specs.Assertions.{locality as locality_of, nv as nv_of, pcr as pcr_of, time as time_of};
-ghost use Rattle.policy.specs.Views.{digest_bytes};
+ghost use Rattle.policy.specs.Views.{digest_bytes, given_of};
 ghost use Rattle.calls.specs.Calls.{assert, judged_call, or as or_of};
 ghost use Rattle.calls.specs.Limits.{fewest_digests, most_digests};
 ghost use Rattle.calls.specs.Views.{call_of, digests_of};
 
 use crate::call::Call;
 use crate::digests::{Digests, FEWEST_DIGESTS, MOST_DIGESTS};
+use arrays::array_vec::ArrayVec;
 use interfaces::code::Code;
-use interfaces::digest::{DIGEST_LENGTH, Digest};
-use interfaces::name::{NAME_LENGTH, Name};
-use policy::assertion::{Assertion, Comparison, Selection};
+use interfaces::digest::Digest;
+use interfaces::name::Name;
+use policy::assertion::{Assertion, Comparison, GivenComparison, Selection};
 use policy::read::ALL_LOCALITIES;
 
 impl Digests {
@@ -21,7 +22,7 @@ impl Digests {
         ensures some { fewest_digests ≤ length result.now }
         ensures few { length result.now ≤ most_digests }
     {
-        &self.digests[0..self.len]
+        self.digests.as_slice()
     }
 }
 
@@ -29,35 +30,23 @@ impl Call {
     pub fn pcr(selection: Selection, digest: &[u8]) -> Result<Call, Code>
         ensures { meant call_of result ≡ judged_call (assert (pcr_of selection.bytes digest.now)) }
     {
-        if digest.len() != DIGEST_LENGTH {
-            return Err(Code::Size);
-        }
-        let mut bytes = [0; DIGEST_LENGTH];
-        bytes.copy_from_slice(digest);
+        let bytes = digest.try_into()?;
         Ok(Call::Assert(Assertion::Pcr(selection, Digest { bytes })))
     }
 
-    pub fn nv(name: &[u8], operand: &[u8], offset: u16, operation: u16) -> Result<Call, Code>
-        ensures { meant call_of result ≡ judged_call (assert (nv_of name.now (record { operand = operand.entry.now; offset = offset; operation = operation }))) }
+    pub fn nv(name: &[u8], comparison: GivenComparison<'_>) -> Result<Call, Code>
+        ensures { meant call_of result ≡ judged_call (assert (nv_of name.now (given_of comparison.entry))) }
     {
-        if name.len() != NAME_LENGTH {
-            return Err(Code::Size);
-        }
-        let mut bytes = [0; NAME_LENGTH];
-        bytes.copy_from_slice(name);
-        match Comparison::new(operand, offset, operation) {
-            Ok(comparison) => Ok(Call::Assert(Assertion::Nv(Name { bytes }, comparison))),
-            Err(code) => Err(code),
-        }
+        let bytes = name.try_into()?;
+        let comparison = Comparison::try_from(comparison)?;
+        Ok(Call::Assert(Assertion::Nv(Name { bytes }, comparison)))
     }
 
-    pub fn time(operand: &[u8], offset: u16, operation: u16) -> Result<Call, Code>
-        ensures { meant call_of result ≡ judged_call (assert (time_of (record { operand = operand.entry.now; offset = offset; operation = operation }))) }
+    pub fn time(comparison: GivenComparison<'_>) -> Result<Call, Code>
+        ensures { meant call_of result ≡ judged_call (assert (time_of (given_of comparison.entry))) }
     {
-        match Comparison::new(operand, offset, operation) {
-            Ok(comparison) => Ok(Call::Assert(Assertion::Time(comparison))),
-            Err(code) => Err(code),
-        }
+        let comparison = Comparison::try_from(comparison)?;
+        Ok(Call::Assert(Assertion::Time(comparison)))
     }
 
     pub fn or(digests: &[&[u8]]) -> Result<Call, Code>
@@ -66,19 +55,12 @@ impl Call {
         if digests.len() < FEWEST_DIGESTS || digests.len() > MOST_DIGESTS {
             return Err(Code::Size);
         }
-        let mut all = [Digest::zero(); MOST_DIGESTS];
-        for (i, digest) in digests.iter().enumerate() {
-            if digest.len() != DIGEST_LENGTH {
-                return Err(Code::Size);
-            }
-            let mut bytes = [0; DIGEST_LENGTH];
-            bytes.copy_from_slice(digest);
-            all[i] = Digest { bytes };
+        let mut all = ArrayVec::new(Digest::zero());
+        for digest in digests {
+            let bytes = (*digest).try_into()?;
+            all.push(Digest { bytes }).unwrap();
         }
-        Ok(Call::Or(Digests {
-            digests: all,
-            len: digests.len(),
-        }))
+        Ok(Call::Or(Digests { digests: all }))
     }
 
     pub fn locality(set: u8) -> Result<Call, Code>
