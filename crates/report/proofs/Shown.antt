@@ -6,7 +6,7 @@ use Rattle.std.proofs.lemmas.List.FromFn.{get_or-map-range_with_len, map-range_w
 use Rattle.std.proofs.lemmas.List.{flat_map_more, map-id}
 use Rattle.std.proofs.lemmas.Bool.{cond-true, cond-false, lt-ltb}
 use Rattle.interfaces.specs.declared.code.Code.{Code}
-use Rattle.interfaces.specs.Checks.{left_in, refused_with, settled}
+use Rattle.interfaces.specs.Checks.{left_in, refused_with}
 use Rattle.interfaces.specs.Faults.{call_refusal, fault_at}
 use Rattle.interfaces.specs.States.{name_length, pcr_count, pcr_length, read_pcr, read_time, time_length, value_limit}
 use Rattle.interfaces.proofs.Answered.{left_whole, pcr_read}
@@ -60,10 +60,10 @@ pub joined_step : (f : ℕ → List ℕ) (p before after : List ℕ) (n : ℕ) �
 joined_step f p before after n a b = a ∙ ap (λ l. l ++ f n) b ∙ flat_map_more f p (range_with_len 0 n) n ∙ ap (λ l. p ++ flat_map f l) (counting_more n)
 
 -- what a block shows once it is taken or refused
-pub taken-shown : (flaw : Option Code) (bs loaded before : List ℕ) → Ok tt ≡ refused_with {A = Unit {0}} flaw tt → loaded ≡ settled flaw bs before → shown_state (block_snapshot loaded) loaded ≡ shown_block flaw bs
-taken-shown None bs loaded before e h = ap (λ b. shown_state (block_snapshot b) b) h
-taken-shown (Some d) bs loaded before e h = absurd (let z : ◌≡◌ {A = ℕ} 0 1 = cc in omega arith)
+pub taken-shown : (flaw : Option Code) (bs taken : List ℕ) → Ok taken ≡ refused_with flaw bs → shown_state (block_snapshot taken) taken ≡ shown_block flaw bs
+taken-shown None bs taken e = let same : taken ≡ bs = cc in ap (λ b. shown_state (block_snapshot b) b) same
+taken-shown (Some d) bs taken e = absurd (let z : ◌≡◌ {A = ℕ} 0 1 = cc in omega arith)
 
-pub refused_shown : (flaw : Option Code) (bs : List ℕ) (code : Code) → Err code ≡ refused_with {A = Unit {0}} flaw tt → shown_fault (fault_at 0 (call_refusal code)) ≡ shown_block flaw bs
+pub refused_shown : (flaw : Option Code) (bs : List ℕ) (code : Code) → Err code ≡ refused_with flaw bs → shown_fault (fault_at 0 (call_refusal code)) ≡ shown_block flaw bs
 refused_shown None bs code e = absurd (let z : ◌≡◌ {A = ℕ} 0 1 = cc in omega arith)
 refused_shown (Some d) bs code e = let same : code ≡ d = cc in ap (λ c. shown_fault (fault_at 0 (call_refusal c))) same

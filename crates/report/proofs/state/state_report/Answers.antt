@@ -1,23 +1,18 @@
-use Rattle.std.proofs.Common.{take, ap, ◌∙◌, arith}
+use Rattle.std.proofs.Common.{◌++◌, ap, ◌∙◌}
 use Rattle.interfaces.specs.Faults.{fault_at}
-use Rattle.block.specs.Layout.{block_flaw}
+use Rattle.block.specs.Layout.{block_flaw, block_snapshot}
 use Rattle.block.specs.Views.{block_bytes}
 use Rattle.report.specs.Reports.{shown_fault}
+use Rattle.report.specs.StateReports.{shown_state}
 use Rattle.report.proofs.Shown.{refused_shown, taken-shown}
 use Rattle.report.proofs.state.state_report.Goals as goal
-use Rattle.report.proofs.state.state_report.Goals.{in-Ok, in-Err}
 
-pub invariant_of-result : goal.invariant_of-result
-invariant_of-result c =
-    elim c.match-load.branch [
-      | in-Ok w ↦ record { within = omega (arith, w.len-is, w.append_state-len.ensures.short) }
-      | in-Err w ↦ record { within = omega (arith, w.len-is, w.append_fault-len.ensures.short) }
-    ]
+pub returns-in-Ok : goal.returns-in-Ok
+returns-in-Ok c =
+    let bs = block_bytes c.in-Ok.block in
+    c.add_state.ensures.joined ∙ ap (λ l. l ++ shown_state (block_snapshot bs) bs) c.new-report.ensures ∙ taken-shown (block_flaw c.args.bytes.now) c.args.bytes.now bs c.in-Ok.ensures
 
-pub returns : goal.returns
-returns c =
-    let bs = c.args.bytes.now in
-    elim c.match-load.branch [
-      | in-Ok w ↦ (λ i. take (w.len-is i) (w.all-is i)) ∙ w.append_state-len.ensures.front ∙ taken-shown (block_flaw bs) bs (block_bytes c.load.new.self) _ w.in-Ok.ensures.answer c.load.ensures.after
-      | in-Err w ↦ (λ i. take (w.len-is i) (w.all-is i)) ∙ w.append_fault-len.ensures.front ∙ ap shown_fault (w.at.ensures ∙ ap (fault_at 0) w.call.ensures) ∙ refused_shown (block_flaw bs) bs w.in-Err.code w.in-Err.ensures.answer
-    ]
+pub returns-in-Err : goal.returns-in-Err
+returns-in-Err c =
+    let fault = c.at.ensures ∙ ap (fault_at 0) c.call.ensures in
+    c.add_fault.ensures.joined ∙ (λ i. c.new-report.ensures i ++ shown_fault (fault i)) ∙ refused_shown (block_flaw c.args.bytes.now) c.args.bytes.now c.in-Err.code c.in-Err.ensures
