@@ -1,5 +1,11 @@
--- A test that fails leaves the other to decide.
-use Rattle.std.proofs.Common.{◌≡◌, Bool, false, ◌||◌, ap}
+-- A digest that is found among others.
+use Rattle.std.proofs.Common.{◌≡◌, ℕ, Bool, ◌||◌, List, [], ◌∷◌, map, refl}
+use Rattle.std.specs.List.{list_any}
+use Rattle.std.specs.Str.{bytes_eq}
+use Rattle.interfaces.specs.declared.digest.Digest.{Digest}
+use Rattle.policy.specs.Views.{digest_bytes}
+use Rattle.session.specs.Steps.{among}
 
-pub among-other : (x y : Bool) → x ≡ false → (x || y) ≡ y
-among-other x y e = ap (λ b. b || y) e
+pub found_among : (same : Digest → Digest → Bool) → ((a b : Digest) → same a b ≡ bytes_eq a.bytes b.bytes) → (d : Digest) (ds : List Digest) → list_any (λ y. same y d) ds ≡ among d.bytes (map digest_bytes ds)
+found_among same tells d [] = refl
+found_among same tells d (x ∷ xs) = λ i. tells x d i || found_among same tells d xs i

@@ -1,4 +1,4 @@
-pub mod Among
 pub mod Judged
 pub mod Stepping
 pub mod Running
+pub mod Among

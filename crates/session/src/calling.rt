@@ -47,7 +47,7 @@ impl<H: Hash, K: Kind> Session<H, K> {
         name: &[u8],
         comparison: GivenComparison<'_>,
     ) -> Result<(), Refusal>
-        ensures { Makes K.checked H.meaning (S.observed state.now) self.old (assert (nv_of name.now (given_of comparison))) result self.new }
+        ensures { Makes K.checked H.meaning (S.observed state.now) self.old (assert (nv_of name.now (given_of comparison.entry))) result self.new }
     {
         self.take(state, Call::nv(name, comparison))
     }
@@ -58,7 +58,7 @@ impl<H: Hash, K: Kind> Session<H, K> {
         state: &S,
         comparison: GivenComparison<'_>,
     ) -> Result<(), Refusal>
-        ensures { Makes K.checked H.meaning (S.observed state.now) self.old (assert (time_of (given_of comparison))) result self.new }
+        ensures { Makes K.checked H.meaning (S.observed state.now) self.old (assert (time_of (given_of comparison.entry))) result self.new }
     {
         self.take(state, Call::time(comparison))
     }

@@ -1,10 +1,8 @@
 // Runs: the calls that the lines of a text stand for, up to the first refused one.
-ghost use Rattle.std.specs.Prelude.{◌≡◌, ◌≤◌, length};
+ghost use Rattle.std.specs.Prelude.{◌≡◌};
 ghost use Rattle.policy.specs.Reading.{refused_by};
-ghost use Rattle.text.specs.Cut.{lines as text_lines};
-ghost use Rattle.tree.specs.Texts.{line_limit};
 ghost use Rattle.session.specs.Kept.{Kept, Runs};
-ghost use Rattle.session.specs.Runs.{line_after, line_refusal, lines_after, lines_answer};
+ghost use Rattle.session.specs.Runs.{line_after, line_refusal};
 ghost use Rattle.session.specs.Views.{progress_of};
 
 use crate::kind::Kind;
@@ -14,7 +12,7 @@ use interfaces::code::Code;
 use interfaces::fault::{Fault, Refusal};
 use interfaces::hash::Hash;
 use interfaces::state::ReaderState;
-use text::cut::{count_lines, first_line};
+use text::cut::{Lines, count_lines};
 use tree::LINE_LIMIT;
 use tree::digest::TEXT_LIMIT;
 
@@ -28,32 +26,19 @@ impl<H: Hash, K: Kind> Session<H, K> {
         self.step(state, &call)
     }
 
-    fn run_lines<S: ReaderState>(&mut self, state: &S, text: &[u8]) -> Result<usize, Fault>
-        requires { length (text_lines text.now) ≤ line_limit }
-        ensures answer { result ≡ lines_answer (K.checked self.old.kind) (H.meaning self.old.hash) (S.observed state.now) 0 (text_lines text.now) (progress_of self.old.progress) }
-        ensures after { progress_of self.new.progress ≡ lines_after (K.checked self.old.kind) (H.meaning self.old.hash) (S.observed state.now) (text_lines text.now) (progress_of self.old.progress) }
-        ensures kept { Kept self.old self.new }
-    {
-        let mut count = 0;
-        let mut rest = text;
-        while let Some((line, more)) = first_line(rest) {
-            if let Err(refusal) = self.run_line(state, line) {
-                return Err(refusal.at(count + 1));
-            }
-            count += 1;
-            rest = more;
-        }
-        Ok(count)
-    }
-
     // Runs a text of up to 64 calls, which may be empty: answers their number, or the first fault, before
     // which the earlier lines stand.
     pub fn run<S: ReaderState>(&mut self, state: &S, text: &[u8]) -> Result<usize, Fault>
         ensures { Runs K.checked H.meaning (S.observed state.now) self.old text.now result self.new }
     {
-        if text.len() > TEXT_LIMIT || count_lines(text) > LINE_LIMIT {
+        let count = count_lines(text);
+        if text.len() > TEXT_LIMIT || count > LINE_LIMIT {
             return Err(Refusal::text(Code::Size).at(0));
         }
-        self.run_lines(state, text)
+        for (i, line) in Lines::new(text).enumerate() {
+            self.run_line(state, line)
+                .map_err(|refusal| refusal.at(i + 1))?;
+        }
+        Ok(count)
     }
 }

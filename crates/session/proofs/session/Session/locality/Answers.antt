@@ -4,4 +4,4 @@ use Rattle.session.proofs.Stepping.{worked_sets}
 use Rattle.session.proofs.session.Session.locality.Goals as goal
 
 pub returns : goal.returns
-returns g c = record { sets = worked_sets; called = c.take.ensures.called (assert (locality c.args.set)) c.locality.ensures; hash = c.take.ensures.hash; kind = c.take.ensures.kind }
+returns g c = record { sets = worked_sets; makes = c.take.ensures (assert (locality c.args.set)) c.locality.ensures }

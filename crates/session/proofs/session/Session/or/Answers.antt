@@ -3,4 +3,4 @@ use Rattle.calls.specs.Calls.{or}
 use Rattle.session.proofs.session.Session.or.Goals as goal
 
 pub returns : goal.returns
-returns g c = record { called = c.take.ensures.called (or (map (λ x. x.now) c.args.digests.now)) c.or.ensures; hash = c.take.ensures.hash; kind = c.take.ensures.kind }
+returns g c = c.take.ensures (or (map (λ x. x.now) c.args.digests.now)) c.or.ensures

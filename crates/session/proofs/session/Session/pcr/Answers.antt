@@ -3,4 +3,4 @@ use Rattle.calls.specs.Calls.{assert}
 use Rattle.session.proofs.session.Session.pcr.Goals as goal
 
 pub returns : goal.returns
-returns g c = record { called = c.take.ensures.called (assert (pcr c.args.selection.bytes c.args.digest.now)) c.pcr.ensures; hash = c.take.ensures.hash; kind = c.take.ensures.kind }
+returns g c = c.take.ensures (assert (pcr c.args.selection.bytes c.args.digest.now)) c.pcr.ensures

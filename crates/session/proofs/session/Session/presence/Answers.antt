@@ -7,4 +7,4 @@ pub take-requires : goal.take-requires
 take-requires g c = (assert presence, refl)
 
 pub returns : goal.returns
-returns g c = record { called = c.take.ensures.called (assert presence) (refl); hash = c.take.ensures.hash; kind = c.take.ensures.kind }
+returns g c = c.take.ensures (assert presence) refl

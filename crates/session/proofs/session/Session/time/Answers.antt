@@ -1,6 +1,7 @@
 use Rattle.policy.specs.Assertions.{time}
+use Rattle.policy.specs.Views.{given_of}
 use Rattle.calls.specs.Calls.{assert}
 use Rattle.session.proofs.session.Session.time.Goals as goal
 
 pub returns : goal.returns
-returns g c = record { called = c.take.ensures.called (assert (time (record { operand = c.args.operand.now; offset = c.args.offset; operation = c.args.operation }))) c.time.ensures; hash = c.take.ensures.hash; kind = c.take.ensures.kind }
+returns g c = c.take.ensures (assert (time (given_of c.args.comparison))) c.time.ensures
