@@ -6,6 +6,7 @@ ghost use Rattle.sha256.specs.Sha256.{round, rounds, schedule, sums};
 use crate::constants::{BLOCK, ROUND_CONSTANTS, State};
 use crate::functions::{big_sigma0, big_sigma1, ch, maj};
 use crate::schedule::{LANES, VECTOR_BYTES, next_words, words_of};
+use std::array;
 use std::simd::prelude::*;
 
 // A round needs no more of its constant and its word than their sum.
@@ -59,14 +60,5 @@ pub(crate) fn all_rounds(start: State, block: &[u8; BLOCK]) -> State
 pub(crate) fn add_all(v: State, h: State) -> State
     ensures { result ≡ sums v h }
 {
-    [
-        v[0].wrapping_add(h[0]),
-        v[1].wrapping_add(h[1]),
-        v[2].wrapping_add(h[2]),
-        v[3].wrapping_add(h[3]),
-        v[4].wrapping_add(h[4]),
-        v[5].wrapping_add(h[5]),
-        v[6].wrapping_add(h[6]),
-        v[7].wrapping_add(h[7]),
-    ]
+    array::from_fn(|i| v[i].wrapping_add(h[i]))
 }

@@ -4,6 +4,7 @@ ghost use Rattle.sha3.specs.Lanes.{ROTL, plane, lane, lane_at};
 ghost use Rattle.sha3.specs.Keccak.{D, θ, ρ, π, turned, Rnd};
 
 use crate::constants::{PLANE, State};
+use std::array;
 
 // A lane for each x, as a plane has.
 type Plane = [u64; PLANE];
@@ -15,18 +16,8 @@ type Planes = (Plane, Plane, Plane, Plane, Plane);
 fn column_terms(a: State) -> Plane
     ensures { result ≡ plane (D a) }
 {
-    let c0 = a[0] ^ a[5] ^ a[10] ^ a[15] ^ a[20];
-    let c1 = a[1] ^ a[6] ^ a[11] ^ a[16] ^ a[21];
-    let c2 = a[2] ^ a[7] ^ a[12] ^ a[17] ^ a[22];
-    let c3 = a[3] ^ a[8] ^ a[13] ^ a[18] ^ a[23];
-    let c4 = a[4] ^ a[9] ^ a[14] ^ a[19] ^ a[24];
-    [
-        c4 ^ c1.rotate_left(1),
-        c0 ^ c2.rotate_left(1),
-        c1 ^ c3.rotate_left(1),
-        c2 ^ c4.rotate_left(1),
-        c3 ^ c0.rotate_left(1),
-    ]
+    let parities: Plane = array::from_fn(|x| a[x] ^ a[x + 5] ^ a[x + 10] ^ a[x + 15] ^ a[x + 20]);
+    array::from_fn(|x| parities[(x + 4) % PLANE] ^ parities[(x + 1) % PLANE].rotate_left(1))
 }
 
 fn theta(a: State) -> State
@@ -66,25 +57,13 @@ fn theta(a: State) -> State
 fn rotated(b: Plane, by: [u32; PLANE]) -> Plane
     ensures { result ≡ plane (λ x. ROTL (lane by x) (lane b x)) }
 {
-    [
-        b[0].rotate_left(by[0]),
-        b[1].rotate_left(by[1]),
-        b[2].rotate_left(by[2]),
-        b[3].rotate_left(by[3]),
-        b[4].rotate_left(by[4]),
-    ]
+    array::from_fn(|x| b[x].rotate_left(by[x]))
 }
 
 fn chi(b: Plane) -> Plane
     ensures { result ≡ plane (λ x. turned (lane b x) (lane b (x + 1)) (lane b (x + 2))) }
 {
-    [
-        b[0] ^ (!b[1] & b[2]),
-        b[1] ^ (!b[2] & b[3]),
-        b[2] ^ (!b[3] & b[4]),
-        b[3] ^ (!b[4] & b[0]),
-        b[4] ^ (!b[0] & b[1]),
-    ]
+    array::from_fn(|x| b[x] ^ (!b[(x + 1) % PLANE] & b[(x + 2) % PLANE]))
 }
 
 // ρ rotates the lanes, and π gathers them into new planes.

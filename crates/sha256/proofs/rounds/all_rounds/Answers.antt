@@ -23,7 +23,7 @@ loop-four-init c =
     let four : length block / 16 ≡ 4 = omega arith in
     let parts = c.as_chunks.ensures.front ∙ ap (λ k. first_chunks 16 k block) four in (
       of_parts c.as_chunks.result.0.now block _ _ _ _ parts c.words_of-a.ensures c.words_of-b.ensures
-      c.words_of-c.ensures c.words_of-d.ensures,
+          c.words_of-c.ensures c.words_of-d.ensures,
       refl,
     )
 
@@ -43,7 +43,7 @@ loop-four-preserved c =
     let words = window_words c.args.block.now c.loop-four.a rest n four (omega arith) c.loop-four.invariant.0 in (
       rw on moved,
       rounds-on K w c.args.start c.loop-four.v c.four_rounds-later.result _ c.loop-four.a n (4 * (i + 1)) on in_K in_w
-      constants words c.loop-four.invariant.1 c.four_rounds-later.ensures,
+          constants words c.loop-four.invariant.1 c.four_rounds-later.ensures,
     )
 
 pub returns : goal.returns
