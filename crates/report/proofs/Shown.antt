@@ -1,23 +1,20 @@
 -- What the lines of a state report show.
-use Rattle.std.proofs.Common.{◌≡◌, ℕ, ◌+◌, ◌*◌, ◌<◌, ◌≤◌, true, false, cond, ltb, List, [], ◌∷◌, ◌++◌, length, get_or, replicate, Some, None, Ok, Err, codes, decimal, Option, unwrap_or, sym, refl, ap, ◌∙◌, arith}
+use Rattle.std.proofs.Common.{◌≡◌, ℕ, ◌+◌, ◌*◌, ◌<◌, ◌≤◌, true, cond, ltb, List, [], ◌∷◌, ◌++◌, length, get_or, Some, None, Ok, Err, Option, unwrap_or, sym, refl, ap, ◌∙◌, arith}
 use Rattle.std.specs.List.{range_with_len, flat_map}
-use Rattle.std.specs.Str.{bytes_eq}
 use Rattle.std.proofs.lemmas.List.FromFn.{get_or-map-range_with_len, map-range_with_len_more}
 use Rattle.std.proofs.lemmas.List.{flat_map_more, map-id}
-use Rattle.std.proofs.lemmas.Bool.{cond-true, cond-false, lt-ltb}
+use Rattle.std.proofs.lemmas.Bool.{cond-true, lt-ltb}
 use Rattle.interfaces.specs.declared.code.Code.{Code}
 use Rattle.interfaces.specs.Checks.{left_in, refused_with}
 use Rattle.interfaces.specs.Faults.{call_refusal, fault_at}
 use Rattle.interfaces.specs.States.{name_length, pcr_count, pcr_length, read_pcr, read_time, time_length, value_limit}
 use Rattle.interfaces.proofs.Answered.{left_whole, pcr_read}
-use Rattle.text.specs.Cut.{tab}
-use Rattle.text.specs.Pairs.{pairs}
 use Rattle.block.specs.Layout.{block_length, block_snapshot, entry_at, entry_in, in_range, number_in, pcr_in, time_at}
 use Rattle.block.specs.Entries.{value_short}
 use Rattle.block.specs.Parts.{part-long}
 use Rattle.block.specs.Ranges.{ranges}
-use Rattle.report.specs.Reports.{labelled, shown_fault}
-use Rattle.report.specs.StateReports.{shown_block, shown_pcr, shown_state}
+use Rattle.report.specs.Reports.{shown_fault}
+use Rattle.report.specs.StateReports.{shown_block, shown_state}
 
 pcr-long : (bs : List ℕ) (i : ℕ) → length bs ≡ block_length → i < pcr_count → length (get_or (block_snapshot bs).pcrs i []) ≡ pcr_length
 pcr-long bs i long h = ap length (get_or-map-range_with_len (pcr_in bs) 0 pcr_count i i [] h (omega arith)) ∙ part-long bs (pcr_length * i) pcr_length (omega arith)
@@ -28,13 +25,6 @@ pcr_read_is bs i out long h e = e ∙ ap (left_in pcr_length) (pcr_read (block_s
 
 pub time_read_is : (bs out : List ℕ) → length bs ≡ block_length → out ≡ left_in time_length (read_time (block_snapshot bs) time_length) → out ≡ (block_snapshot bs).time
 time_read_is bs out long e = e ∙ left_whole _ time_length (part-long bs time_at time_length (omega arith))
-
--- a PCR's line
-pub zero_pcr_lem : (pcrs : List (List ℕ)) (i : ℕ) (value : List ℕ) → value ≡ get_or pcrs i [] → bytes_eq value (replicate pcr_length 0) ≡ true → shown_pcr pcrs i ≡ []
-zero_pcr_lem pcrs i value e t = cond-true _ _ _ (ap (λ v. bytes_eq v (replicate pcr_length 0)) (sym e) ∙ t)
-
-pub other-pcr : (pcrs : List (List ℕ)) (i : ℕ) (value : List ℕ) → value ≡ get_or pcrs i [] → bytes_eq value (replicate pcr_length 0) ≡ false → shown_pcr pcrs i ≡ labelled (codes "pcr") (decimal i ++ tab ∷ pairs value)
-other-pcr pcrs i value e f = cond-false _ _ _ (ap (λ v. bytes_eq v (replicate pcr_length 0)) (sym e) ∙ f) ∙ ap (λ v. labelled (codes "pcr") (decimal i ++ tab ∷ pairs v)) (sym e)
 
 -- the lengths of a used entry, as it is read
 pub record EntryLengths (name value : List ℕ) : Type 0 where
@@ -60,9 +50,14 @@ pub joined_step : (f : ℕ → List ℕ) (p before after : List ℕ) (n : ℕ) �
 joined_step f p before after n a b = a ∙ ap (λ l. l ++ f n) b ∙ flat_map_more f p (range_with_len 0 n) n ∙ ap (λ l. p ++ flat_map f l) (counting_more n)
 
 -- what a block shows once it is taken or refused
+pub taken-is : (flaw : Option Code) (bs taken : List ℕ) → Ok taken ≡ refused_with flaw bs → (flaw ≡ None) × (taken ≡ bs)
+taken-is None bs taken e = (refl, (let same : taken ≡ bs = cc in same))
+taken-is (Some d) bs taken e = absurd (let z : ◌≡◌ {A = ℕ} 0 1 = cc in omega arith)
+
 pub taken-shown : (flaw : Option Code) (bs taken : List ℕ) → Ok taken ≡ refused_with flaw bs → shown_state (block_snapshot taken) taken ≡ shown_block flaw bs
-taken-shown None bs taken e = let same : taken ≡ bs = cc in ap (λ b. shown_state (block_snapshot b) b) same
-taken-shown (Some d) bs taken e = absurd (let z : ◌≡◌ {A = ℕ} 0 1 = cc in omega arith)
+taken-shown flaw bs taken e =
+    let is = taken-is flaw bs taken e in
+    ap (λ b. shown_state (block_snapshot b) b) is.1 ∙ sym (ap (λ f. shown_block f bs) is.0)
 
 pub refused_shown : (flaw : Option Code) (bs : List ℕ) (code : Code) → Err code ≡ refused_with flaw bs → shown_fault (fault_at 0 (call_refusal code)) ≡ shown_block flaw bs
 refused_shown None bs code e = absurd (let z : ◌≡◌ {A = ℕ} 0 1 = cc in omega arith)

@@ -1,5 +1,5 @@
 -- Laws of runs, line by line.
-use Rattle.std.proofs.Common.{◌≡◌, ℕ, suc, ◌+◌, Bool, true, false, List, [], ◌∷◌, length, Some, None, Ok, Err, Option, Result, sym, refl, ap, ◌∙◌, arith}
+use Rattle.std.proofs.Common.{◌≡◌, ℕ, suc, ◌+◌, Bool, true, false, List, ◌∷◌, length, Some, None, Ok, Err, Option, Result, sym, refl, ap, ◌∙◌, arith}
 use Rattle.std.proofs.lemmas.Bool.{cond-false, cond-true}
 use Rattle.interfaces.specs.declared.code.Code.TheVariants.{Size}
 use Rattle.interfaces.specs.declared.fault.Fault.{Fault}
@@ -74,8 +74,8 @@ module _ (checked now : Bool) (h k : Hashing) (s : Snapshot) (text : List ℕ) (
       let refused = refused_by_lem (line_refusal checked h s p line) x (sym e ∙ answer-is) in
       let one : count + 1 ≡ suc count = omega arith in
       ran_fit checked h s text first q later fit
-        (fault ∙ ap (λ n. Err (fault_at n x)) one ∙ sym (answer_refused checked h s count line (lines more) p x refused) ∙ sym (ap (λ ls. lines_answer checked h s count ls p) next) ∙ here.answer)
-        (after-is ∙ sym (after_refused checked h s count line (lines more) p x refused) ∙ sym (ap (λ ls. lines_after checked h s ls p) next) ∙ here.after)
+      (fault ∙ ap (λ n. Err (fault_at n x)) one ∙ sym (answer_refused checked h s count line (lines more) p x refused) ∙ sym (ap (λ ls. lines_answer checked h s count ls p) next) ∙ here.answer)
+      (after-is ∙ sym (after_refused checked h s count line (lines more) p x refused) ∙ sym (ap (λ ls. lines_after checked h s ls p) next) ∙ here.after)
 
   pub going_stopped : (q : Result ℕ Fault) → (r ≡ Ok tt → ⊥) → ((x : Refusal) → r ≡ Err x → q ≡ Err (fault_at (count + 1) x)) → run_fits text ≡ true → Ran checked h s first text q later
   going_stopped q bad fault fit = by r refl

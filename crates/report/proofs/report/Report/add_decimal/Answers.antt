@@ -1,4 +1,4 @@
-use Rattle.std.proofs.Common.{◌+◌, ◌≤◌, ◌++◌, length, decimal, ap, ◌∙◌, arith, rules}
+use Rattle.std.proofs.Common.{length, decimal, ap, ◌∙◌, arith, rules}
 use Rattle.std.proofs.lemmas.Fmt.{length-decimal-le}
 use Rattle.std.proofs.lemmas.List.{length-append}
 use Rattle.arrays.proofs.Putting.{put_fits}

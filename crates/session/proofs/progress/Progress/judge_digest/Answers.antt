@@ -1,4 +1,4 @@
-use Rattle.std.proofs.Common.{◌≡◌, map, sym, ap, refl, ◌∙◌, rules}
+use Rattle.std.proofs.Common.{◌≡◌, map, sym, ap, ◌∙◌, rules}
 use Rattle.interfaces.specs.contracts.digest.DigestPartialEq.TheImpl as derived
 use Rattle.interfaces.specs.Checks.{refused_with, unless}
 use Rattle.interfaces.specs.declared.code.Code.TheVariants.{Value}

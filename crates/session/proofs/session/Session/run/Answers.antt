@@ -1,7 +1,6 @@
 use Rattle.std.proofs.Common.{◌≡◌, true, ap, ◌∙◌, rules}
-use Rattle.std.specs.Iterator.Adapters.{enumerate_source, enumerate_count}
+use Rattle.std.specs.Iterator.Adapters.{enumerate_source}
 use Rattle.session.specs.Runs.{run_fits}
-use Rattle.session.specs.Views.{progress_of}
 use Rattle.session.proofs.Running.{going_more, going_stopped}
 use Rattle.session.proofs.session.Session.run.Goals as goal
 

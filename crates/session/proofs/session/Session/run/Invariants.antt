@@ -1,4 +1,3 @@
-
 use Rattle.std.specs.Iterator.Adapters.{enumerate_source, enumerate_count}
 use Rattle.session.specs.Kept.{Kept}
 use Rattle.session.specs.Views.{progress_of}
