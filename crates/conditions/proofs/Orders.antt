@@ -23,39 +23,43 @@ less_from m n [] (y ∷ ys) e p q h = absurd (omega arith)
 less_from m n (x ∷ xs) [] e p q h = absurd (omega arith)
 less_from m n (x ∷ xs) (y ∷ ys) e p q h = less_from (m * 256 + x) (n * 256 + y) xs ys (omega arith) p.1 q.1 (omega (arith, p.0, q.0))
 
-less : (m n : ℕ) → m < n → nat_cmp m n ≡ Less
-less m n h = cond-true _ _ _ (lt-ltb m n h)
+nat_cmp-less : (m n : ℕ) → m < n → nat_cmp m n ≡ Less
+nat_cmp-less m n h = cond-true _ _ _ (lt-ltb m n h)
 
-greater : (m n : ℕ) → n < m → nat_cmp m n ≡ Greater
-greater m n h = cond-false _ _ _ (le-ltb m n (omega arith)) ∙ cond-false _ _ _ (ne_eqb m n (λ e. omega arith))
+nat_cmp-greater : (m n : ℕ) → n < m → nat_cmp m n ≡ Greater
+nat_cmp-greater m n h = cond-false _ _ _ (le-ltb m n (omega arith)) ∙ cond-false _ _ _ (ne_eqb m n (λ e. omega arith))
 
-same : (m n : ℕ) → m ≡ n → nat_cmp m n ≡ Equal
-same m n e = cond-false _ _ _ (le-ltb m n (omega arith)) ∙ cond-true _ _ _ (eq-eqb m n e)
+nat_cmp-same : (m n : ℕ) → m ≡ n → nat_cmp m n ≡ Equal
+nat_cmp-same m n e = cond-false _ _ _ (le-ltb m n (omega arith)) ∙ cond-true _ _ _ (eq-eqb m n e)
 
--- byte strings of one length are in the order of their numbers: the first byte that differs decides
+-- how the code orders byte strings
 abbrev in_order : List ℕ → List ℕ → Option Ordering
 in_order a b = slice_partial_cmp (λ x y. Some (nat_cmp x y)) a b
 
+-- that is the order of the numbers that they make behind the digits n
 abbrev InOrder : ℕ → List ℕ → List ℕ → Type 0
 InOrder n xs ys = in_order xs ys ≡ Some (nat_cmp (unsigned_from n xs) (unsigned_from n ys))
 
+-- the first byte that differs decides
 order_from : (n : ℕ) (xs ys : List ℕ) → length xs ≡ length ys → Bytes xs → Bytes ys → InOrder n xs ys
-order_from n [] [] e p q = ap Some (sym (same n n refl))
+order_from n [] [] e p q = ap Some (sym (nat_cmp-same n n refl))
 order_from n [] (y ∷ ys) e p q = absurd (omega arith)
 order_from n (x ∷ xs) [] e p q = absurd (omega arith)
-order_from n (x ∷ xs) (y ∷ ys) e p q = ⊎_elim below (λ h. ⊎_elim above (λ k. alike (order_from (n * 256 + x) xs ys (omega arith) p.1 q.1) (omega arith)) (cases_lt y x)) (cases_lt x y)
+order_from n (x ∷ xs) (y ∷ ys) e p q =
+    let rest = order_from (n * 256 + x) xs ys (omega arith) p.1 q.1 in
+    ⊎_elim first_less (λ h. ⊎_elim first_greater (λ k. first_same rest (omega arith)) (cases_lt y x)) (cases_lt x y)
   where
     first : (o : Ordering) → nat_cmp x y ≡ o → in_order (x ∷ xs) (y ∷ ys) ≡ partial_ordering_then (Some o) (in_order xs ys)
     first o h = ap (λ o. partial_ordering_then (Some o) (in_order xs ys)) h
 
-    below : x < y → InOrder n (x ∷ xs) (y ∷ ys)
-    below h = first Less (less x y h) ∙ ap Some (sym (less _ _ (less_from (n * 256 + x) (n * 256 + y) xs ys (omega arith) p.1 q.1 (omega arith))))
+    first_less : x < y → InOrder n (x ∷ xs) (y ∷ ys)
+    first_less h = first Less (nat_cmp-less x y h) ∙ ap Some (sym (nat_cmp-less _ _ (less_from (n * 256 + x) (n * 256 + y) xs ys (omega arith) p.1 q.1 (omega arith))))
 
-    above : y < x → InOrder n (x ∷ xs) (y ∷ ys)
-    above h = first Greater (greater x y h) ∙ ap Some (sym (greater _ _ (less_from (n * 256 + y) (n * 256 + x) ys xs (omega arith) q.1 p.1 (omega arith))))
+    first_greater : y < x → InOrder n (x ∷ xs) (y ∷ ys)
+    first_greater h = first Greater (nat_cmp-greater x y h) ∙ ap Some (sym (nat_cmp-greater _ _ (less_from (n * 256 + y) (n * 256 + x) ys xs (omega arith) q.1 p.1 (omega arith))))
 
-    alike : InOrder (n * 256 + x) xs ys → x ≡ y → InOrder n (x ∷ xs) (y ∷ ys)
-    alike rest h = first Equal (same x y h) ∙ rest ∙ ap (λ z. Some (nat_cmp (unsigned_from (n * 256 + x) xs) (unsigned_from (n * 256 + z) ys))) h
+    first_same : InOrder (n * 256 + x) xs ys → x ≡ y → InOrder n (x ∷ xs) (y ∷ ys)
+    first_same rest h = first Equal (nat_cmp-same x y h) ∙ rest ∙ ap (λ z. Some (nat_cmp (unsigned_from (n * 256 + x) xs) (unsigned_from (n * 256 + z) ys))) h
 
 -- the tests of an order, where `below` says that the first is less, and `above` that the second is
 pub record Agrees (o : Option Ordering) (below above : Bool) : Type 0 where
@@ -114,11 +118,12 @@ module _ (a b : List ℕ) where
   pub signs_differ : (s t : Bool) → s ≡ negative a → t ≡ negative b → not (beq s t) ≡ true → Apart s t (signed a) (signed b)
   signs_differ s t f g d = subst (λ x. Apart s t x (signed b)) (ap (λ n. by_sign n a) f) (subst (λ y. Apart s t (by_sign s a) y) (ap (λ n. by_sign n b) g) (apart s t d))
 
+  -- bytes of one length order as their unsigned numbers do
   module _ (e : length a ≡ length b) (p : (i : ℕ) → Fits w8 (get_or a i 0)) (q : (i : ℕ) → Fits w8 (get_or b i 0)) where
     pub unsigned_order : Agrees (in_order a b) (ltb (unsigned a) (unsigned b)) (ltb (unsigned b) (unsigned a))
     unsigned_order = subst (λ o. Agrees o (ltb (unsigned a) (unsigned b)) (ltb (unsigned b) (unsigned a))) (sym (order_from 0 a b e (fit_bytes a p) (fit_bytes b q))) (numbers (unsigned a) (unsigned b))
 
-    -- where they do not, two's complement orders as unsigned numbers do
+    -- and where the signs are the same, as their signed numbers do
     pub signed_order : (s t : Bool) → s ≡ negative a → t ≡ negative b → not (beq s t) ≡ false → Agrees (in_order a b) (lt_z (signed a) (signed b)) (lt_z (signed b) (signed a))
     signed_order s t f g d =
         let same = alike e (fit_bytes a p) (fit_bytes b q) s t d in
