@@ -1,5 +1,5 @@
+pub mod Bits
 pub mod Orders
 pub mod Picks
 pub mod Left
 pub mod Unmet
-pub mod Worked

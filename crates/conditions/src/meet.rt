@@ -1,12 +1,9 @@
 // The checks of an assertion against a reader state.
-ghost use Rattle.std.specs.Prelude.{◌≡◌, Option};
-ghost use Rattle.interfaces.specs.declared.code.Code.{Code};
+ghost use Rattle.std.specs.Prelude.{◌≡◌};
 ghost use Rattle.interfaces.specs.declared.code.Code.TheVariants.{Range};
 ghost use Rattle.interfaces.specs.Checks.{refused_with};
-ghost use Rattle.interfaces.specs.Faults.{call_refusal};
 ghost use Rattle.policy.specs.Reading.{refused_by};
 ghost use Rattle.policy.specs.Views.{assertion_of, comparison_of};
-ghost use Rattle.std.specs.Option.{option_map};
 ghost use Rattle.conditions.specs.Cases.{WorkedComparisons, WorkedSelections};
 ghost use Rattle.conditions.specs.Meeting.{comparison_unmet, pcrs_unmet, stored_unmet, unmet};
 
@@ -19,7 +16,6 @@ use interfaces::hash::Hash;
 use interfaces::name::Name;
 use interfaces::state::{ReaderState, TIME_LENGTH, VALUE_LIMIT};
 use policy::assertion::{Assertion, Comparison, Selection};
-use text::word::same;
 
 fn check_pcrs<H: Hash, S: ReaderState>(
     hash: &H,
@@ -29,8 +25,7 @@ fn check_pcrs<H: Hash, S: ReaderState>(
 ) -> Result<(), Code>
     ensures { result ≡ refused_with (pcrs_unmet (H.meaning hash.now) (S.observed state.now) selection.now.bytes digest.now.bytes) tt }
 {
-    let found = picked_digest(hash, state, selection);
-    if same(&found.bytes, &digest.bytes) {
+    if picked_digest(hash, state, selection) == *digest {
         Ok(())
     } else {
         Err(Code::Value)
@@ -52,16 +47,6 @@ fn check_comparison(value: &[u8], comparison: &Comparison, past: Code) -> Result
     Ok(())
 }
 
-// Reports a check's refusal as the call's.
-fn as_call(answer: Result<(), Code>) -> Result<(), Refusal>
-    ensures { (f : Option Code) → answer ≡ refused_with f tt → result ≡ refused_by (option_map call_refusal f) tt }
-{
-    match answer {
-        Ok(()) => Ok(()),
-        Err(code) => Err(Refusal::call(code)),
-    }
-}
-
 fn check_stored<S: ReaderState>(
     state: &S,
     name: &Name,
@@ -70,10 +55,10 @@ fn check_stored<S: ReaderState>(
     ensures { result ≡ refused_by (stored_unmet ((S.observed state.now).stored name.now.bytes) (comparison_of comparison.now)) tt }
 {
     let mut value = [0; VALUE_LIMIT];
-    match state.stored_value(&name.bytes, &mut value) {
-        Ok(len) => as_call(check_comparison(&value[..len], comparison, Code::NvRange)),
-        Err(code) => Err(Refusal::state(code)),
-    }
+    let len = state
+        .stored_value(&name.bytes, &mut value)
+        .map_err(Refusal::state)?;
+    check_comparison(&value[..len], comparison, Code::NvRange).map_err(Refusal::call)
 }
 
 fn check_time<S: ReaderState>(state: &S, comparison: &Comparison) -> Result<(), Code>
@@ -96,9 +81,11 @@ pub fn meet<H: Hash, S: ReaderState>(
     ensures value { result ≡ refused_by (unmet (H.meaning hash.now) (S.observed state.now) (assertion_of assertion.now)) tt }
 {
     match assertion {
-        Assertion::Pcr(selection, digest) => as_call(check_pcrs(hash, state, selection, digest)),
+        Assertion::Pcr(selection, digest) => {
+            check_pcrs(hash, state, selection, digest).map_err(Refusal::call)
+        }
         Assertion::Nv(name, comparison) => check_stored(state, name, comparison),
-        Assertion::Time(comparison) => as_call(check_time(state, comparison)),
+        Assertion::Time(comparison) => check_time(state, comparison).map_err(Refusal::call),
         Assertion::Locality(_) => Ok(()),
         Assertion::Command(_) => Ok(()),
         Assertion::Presence => Ok(()),

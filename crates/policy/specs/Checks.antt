@@ -19,12 +19,15 @@ last_operation = 11
 abbrev pub all_localities : ℕ
 all_localities = 0x1f
 
+-- An operand has some bytes, and no more than the limit.
 abbrev pub operand_flaw : List ℕ → Option Code
 operand_flaw operand = unless (nat_le 1 (length operand) && nat_le (length operand) operand_limit) Size
 
+-- The number is that of an operation.
 abbrev pub operation_flaw : ℕ → Option Code
 operation_flaw n = unless (nat_le n last_operation) Value
 
+-- A comparison's operand is judged first, then its operation.
 abbrev pub comparison_flaw : Comparison → Option Code
 comparison_flaw c = first (operand_flaw c.operand) (operation_flaw c.operation)
 

@@ -14,6 +14,7 @@ use Rattle.policy.specs.Assertions.{Comparison, Assertion, pcr, nv, time, locali
 use Rattle.policy.specs.Lines.{Line, start, any, extend}
 use Rattle.policy.specs.Operations.{operation_number}
 
+-- An operand's bytes.
 abbrev pub operand_bytes : Operand → List ℕ
 operand_bytes o = items o.bytes
 

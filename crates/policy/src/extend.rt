@@ -99,7 +99,7 @@ pub fn extend_digest<H: Hash>(hash: &H, old: &Digest, assertion: &Assertion) -> 
 }
 
 fn append_digests<const N: usize>(text: &mut ArrayVec<u8, N>, digests: &[Digest])
-    requires { length (items text.old) + 32 * length digests.now ≤ N }
+    requires { length (items text.old) + DIGEST_LENGTH * length digests.now ≤ N }
     ensures { items text.new ≡ items text.old ++ flat_map digest_bytes digests.now }
 {
     for digest in digests {

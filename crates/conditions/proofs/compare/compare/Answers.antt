@@ -1,5 +1,5 @@
 use Rattle.std.proofs.Common.{rules}
-use Rattle.conditions.proofs.Orders.{fit_bytes, signs_differ, signs_same}
+use Rattle.conditions.proofs.Orders.{signs_differ, unsigned_order, signed_order}
 use Rattle.conditions.proofs.compare.compare.Goals as goal
 
 pub returns-in-SignedGreater : goal.returns-in-SignedGreater
@@ -9,9 +9,12 @@ returns-in-SignedGreater c =
 
 pub returns-in-SignedGreater-2 : goal.returns-in-SignedGreater-2
 returns-in-SignedGreater-2 c =
-    let p = fit_bytes c.args.a.now c.type_inv.a in
-    let q = fit_bytes c.args.b.now c.type_inv.b in
-    let d = signs_same c.args.a.now c.args.b.now c.requires p q _ _ c.is_negative-a_negative.ensures c.is_negative-b_negative.ensures c.if-a_negative-b_negative.false in
+    let o = signed_order c.args.a.now c.args.b.now c.requires (assumption) (assumption) _ _ c.is_negative-a_negative.ensures c.is_negative-b_negative.ensures c.if-a_negative-b_negative.false in
+    search rules
+
+pub returns-in-UnsignedGreater : goal.returns-in-UnsignedGreater
+returns-in-UnsignedGreater c =
+    let o = unsigned_order c.args.a.now c.args.b.now c.requires (assumption) (assumption) in
     search rules
 
 pub returns-in-SignedLess : goal.returns-in-SignedLess
@@ -21,9 +24,12 @@ returns-in-SignedLess c =
 
 pub returns-in-SignedLess-2 : goal.returns-in-SignedLess-2
 returns-in-SignedLess-2 c =
-    let p = fit_bytes c.args.a.now c.type_inv.a in
-    let q = fit_bytes c.args.b.now c.type_inv.b in
-    let d = signs_same c.args.a.now c.args.b.now c.requires p q _ _ c.is_negative-a_negative.ensures c.is_negative-b_negative.ensures c.if-a_negative-b_negative-2.false in
+    let o = signed_order c.args.a.now c.args.b.now c.requires (assumption) (assumption) _ _ c.is_negative-a_negative.ensures c.is_negative-b_negative.ensures c.if-a_negative-b_negative-2.false in
+    search rules
+
+pub returns-in-UnsignedLess : goal.returns-in-UnsignedLess
+returns-in-UnsignedLess c =
+    let o = unsigned_order c.args.a.now c.args.b.now c.requires (assumption) (assumption) in
     search rules
 
 pub returns-in-SignedGreaterOrEqual : goal.returns-in-SignedGreaterOrEqual
@@ -33,9 +39,12 @@ returns-in-SignedGreaterOrEqual c =
 
 pub returns-in-SignedGreaterOrEqual-2 : goal.returns-in-SignedGreaterOrEqual-2
 returns-in-SignedGreaterOrEqual-2 c =
-    let p = fit_bytes c.args.a.now c.type_inv.a in
-    let q = fit_bytes c.args.b.now c.type_inv.b in
-    let d = signs_same c.args.a.now c.args.b.now c.requires p q _ _ c.is_negative-a_negative.ensures c.is_negative-b_negative.ensures c.if-a_negative-b_negative-3.false in
+    let o = signed_order c.args.a.now c.args.b.now c.requires (assumption) (assumption) _ _ c.is_negative-a_negative.ensures c.is_negative-b_negative.ensures c.if-a_negative-b_negative-3.false in
+    search rules
+
+pub returns-in-UnsignedGreaterOrEqual : goal.returns-in-UnsignedGreaterOrEqual
+returns-in-UnsignedGreaterOrEqual c =
+    let o = unsigned_order c.args.a.now c.args.b.now c.requires (assumption) (assumption) in
     search rules
 
 pub returns-in-SignedLessOrEqual : goal.returns-in-SignedLessOrEqual
@@ -45,7 +54,10 @@ returns-in-SignedLessOrEqual c =
 
 pub returns-in-SignedLessOrEqual-2 : goal.returns-in-SignedLessOrEqual-2
 returns-in-SignedLessOrEqual-2 c =
-    let p = fit_bytes c.args.a.now c.type_inv.a in
-    let q = fit_bytes c.args.b.now c.type_inv.b in
-    let d = signs_same c.args.a.now c.args.b.now c.requires p q _ _ c.is_negative-a_negative.ensures c.is_negative-b_negative.ensures c.if-a_negative-b_negative-4.false in
+    let o = signed_order c.args.a.now c.args.b.now c.requires (assumption) (assumption) _ _ c.is_negative-a_negative.ensures c.is_negative-b_negative.ensures c.if-a_negative-b_negative-4.false in
+    search rules
+
+pub returns-in-UnsignedLessOrEqual : goal.returns-in-UnsignedLessOrEqual
+returns-in-UnsignedLessOrEqual c =
+    let o = unsigned_order c.args.a.now c.args.b.now c.requires (assumption) (assumption) in
     search rules

@@ -1,11 +1,7 @@
 use Rattle.std.proofs.Common.{arith, rules}
-use Rattle.std.proofs.lemmas.List.{length-take-le, length-drop}
 use Rattle.policy.specs.Views.{comparison_of}
 use Rattle.conditions.proofs.Unmet.{compared}
 use Rattle.conditions.proofs.meet.check_comparison.Goals as goal
-
-pub compare-requires : goal.compare-requires
-compare-requires c = search (rules, length-take-le, length-drop)
 
 pub returns-then-not-compare : goal.returns-then-not-compare
 returns-then-not-compare c =

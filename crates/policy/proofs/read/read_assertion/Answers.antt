@@ -2,6 +2,9 @@ use Rattle.std.proofs.Common.{codes, Err, ap, arith}
 use Rattle.policy.proofs.Words.{spelled, misspelled}
 use Rattle.policy.proofs.read.read_assertion.Goals as goal
 
+pub returns-in-time : goal.returns-in-time
+returns-in-time c = rw (spelled c.args.word.now (codes "time") (omega arith)) c.read_time.ensures
+
 pub returns-in-locality : goal.returns-in-locality
 returns-in-locality c = rw (spelled c.args.word.now (codes "locality") (omega arith)) c.read_locality.ensures
 
