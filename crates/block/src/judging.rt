@@ -5,9 +5,7 @@ ghost use Rattle.block.specs.Layout.{block_flaw, block_length, entry_count, in_r
 ghost use Rattle.block.specs.Views.{block_bytes};
 
 use crate::block::Block;
-use crate::layout::{
-    BLOCK_LENGTH, ENTRIES_AT, ENTRY_COUNT, ENTRY_LENGTH, LOCALITY_AT, NUMBER_AT, PRESENCE_AT,
-};
+use crate::layout::{BLOCK_LENGTH, ENTRY_COUNT, LOCALITY_AT, NUMBER_AT, PRESENCE_AT, entry_at};
 use interfaces::code::Code;
 use interfaces::name::NAME_LENGTH;
 use interfaces::state::{LAST_LOCALITY, VALUE_LIMIT};
@@ -17,7 +15,7 @@ fn lengths_fit(bytes: &[u8; BLOCK_LENGTH], number: usize) -> bool
     requires { number ≤ entry_count }
     ensures { result ≡ lengths_fit bytes.now number }
 {
-    (0..number).all(|i| bytes[ENTRIES_AT + ENTRY_LENGTH * i + NAME_LENGTH] as usize <= VALUE_LIMIT)
+    (0..number).all(|i| bytes[entry_at(i) + NAME_LENGTH] as usize <= VALUE_LIMIT)
 }
 
 fn in_range(bytes: &[u8; BLOCK_LENGTH]) -> bool

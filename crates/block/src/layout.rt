@@ -1,4 +1,7 @@
 // Where the parts of a block lie.
+ghost use Rattle.std.specs.Prelude.{◌≡◌, ◌<◌};
+ghost use Rattle.block.specs.Layout.{entry_at, entry_count};
+
 use interfaces::name::NAME_LENGTH;
 use interfaces::state::{PCR_COUNT, PCR_LENGTH, TIME_LENGTH, VALUE_LIMIT};
 
@@ -22,3 +25,10 @@ pub(crate) const ENTRY_COUNT: usize = 8;
 pub(crate) const ENTRY_LENGTH: usize = NAME_LENGTH + 1 + VALUE_LIMIT;
 
 pub const BLOCK_LENGTH: usize = ENTRIES_AT + ENTRY_COUNT * ENTRY_LENGTH;
+
+pub(crate) fn entry_at(i: usize) -> usize
+    requires { i < entry_count }
+    ensures { result ≡ entry_at i }
+{
+    ENTRIES_AT + ENTRY_LENGTH * i
+}

@@ -10,7 +10,7 @@ ghost use Rattle.block.specs.Meaning.{block_sound};
 
 use crate::block::Block;
 use crate::layout::{
-    COUNT_AT, COUNT_LENGTH, ENTRIES_AT, ENTRY_LENGTH, LOCALITY_AT, NUMBER_AT, PRESENCE_AT, TIME_AT,
+    COUNT_AT, COUNT_LENGTH, LOCALITY_AT, NUMBER_AT, PRESENCE_AT, TIME_AT, entry_at,
 };
 use interfaces::buffer::{clear, fill};
 use interfaces::code::Code;
@@ -42,14 +42,14 @@ impl Block<'_> {
         requires { i < entry_count }
         ensures { result.now ≡ name_in (block_bytes self.now) i }
     {
-        self.part(ENTRIES_AT + ENTRY_LENGTH * i, NAME_LENGTH)
+        self.part(entry_at(i), NAME_LENGTH)
     }
 
     fn value(&self, i: usize) -> &[u8]
         requires { i < number_in (block_bytes self.now) }
         ensures { result.now ≡ value_in (block_bytes self.now) i }
     {
-        let at = ENTRIES_AT + ENTRY_LENGTH * i + NAME_LENGTH;
+        let at = entry_at(i) + NAME_LENGTH;
         self.part(at + 1, self.bytes[at] as usize)
     }
 

@@ -1,10 +1,12 @@
 -- Laws of PCRs with planned ones over them.
-use Rattle.std.specs.Prelude.{◌≡◌, ℕ, zero, suc, ◌+◌, ◌<◌, List, [], ◌∷◌, map, length, get_or, take, Some, None, Option, ◌≢◌, nat_eq, slice_index_or, slice_set, refl}
+use Rattle.std.specs.Prelude.{◌≡◌, ℕ, zero, suc, ◌+◌, ◌<◌, List, [], ◌∷◌, map, length, get_or, Some, None, Option, ◌≢◌, nat_eq, slice_index_or, slice_set, refl}
 use Rattle.std.proofs.Common.{arith, ap, ◌∙◌}
 use Rattle.std.specs.Option.{unwrap_or}
 use Rattle.std.specs.List.{AllByRecursion}
 use Rattle.std.proofs.lemmas.Bool.{cond-true, cond-false, eq-eqb, eqb-true, ne_eqb, lt-ltb}
 use Rattle.std.proofs.lemmas.Bool.Decides.{Decides-eqb}
+use Rattle.arrays.specs.declared.array_vec.ArrayVec.{ArrayVec}
+use Rattle.arrays.specs.Items.{items}
 use Rattle.interfaces.specs.declared.code.Code.{Code}
 use Rattle.interfaces.specs.declared.code.Code.TheVariants.{Size, Value}
 use Rattle.interfaces.specs.Checks.{Bytes, first, settled}
@@ -12,7 +14,6 @@ use Rattle.interfaces.specs.States.{Snapshot, pcr_count, pcr_length}
 use Rattle.tables.specs.Tables.{value_under, put_under, full_flaw}
 use Rattle.tables.proofs.Bytes.{small_bytes}
 use Rattle.tables.proofs.Laws.{value_holds, value_put}
-use Rattle.forecast.specs.declared.planned.Planned.{Planned}
 use Rattle.forecast.specs.declared.planned.PlannedPcr.{PlannedPcr}
 use Rattle.forecast.specs.Limits.{plan_count}
 use Rattle.forecast.specs.Plans.{Plans, overlaid, with_pcrs, forecast_snapshot, plan_flaw, with_pcr}
@@ -74,13 +75,13 @@ every [] i d h = absurd (omega arith)
 every (e ∷ es) zero d h = record { long = e.value.long; bytes = small_bytes e.value.bytes e.value.small }
 every (e ∷ es) (suc i) d h = every es i d (omega arith)
 
-planned_value : (p : Planned) (k : ℕ) (v : List ℕ) → value_under nat_eq (plans_of p) k ≡ Some v → Planned-value k v
-planned_value p k v e = value_holds nat_eq Planned-value (plans_of p) k v (every (take p.used p.entries)) eqb-true e
+planned_value : (p : ArrayVec PlannedPcr plan_count) (k : ℕ) (v : List ℕ) → value_under nat_eq (plans_of p) k ≡ Some v → Planned-value k v
+planned_value p k v e = value_holds nat_eq Planned-value (plans_of p) k v (every (items p)) eqb-true e
 
-pub planned_long : (p : Planned) (k : ℕ) (v : List ℕ) → value_under nat_eq (plans_of p) k ≡ Some v → length v ≡ pcr_length
+pub planned_long : (p : ArrayVec PlannedPcr plan_count) (k : ℕ) (v : List ℕ) → value_under nat_eq (plans_of p) k ≡ Some v → length v ≡ pcr_length
 planned_long p k v e = (planned_value p k v e).long
 
-pub planned_bytes : (p : Planned) (k : ℕ) (v : List ℕ) → value_under nat_eq (plans_of p) k ≡ Some v → Bytes v
+pub planned_bytes : (p : ArrayVec PlannedPcr plan_count) (k : ℕ) (v : List ℕ) → value_under nat_eq (plans_of p) k ≡ Some v → Bytes v
 planned_bytes p k v e = (planned_value p k v e).bytes
 
 pub plan_passes : (plans : Plans) (index : ℕ) (value : List ℕ) → length value ≡ pcr_length → index < pcr_count → plan_flaw plans index value ≡ full_flaw nat_eq plan_count plans index

@@ -6,10 +6,12 @@ ghost use Rattle.forecast.specs.Views.{plans_of};
 ghost use Rattle.tables.specs.Tables.{put_under};
 
 use crate::forecast::Forecast;
-use crate::planned::{Planned, PlannedPcr};
+use crate::planned::PlannedPcr;
+use arrays::array_vec::ArrayVec;
 use interfaces::code::Code;
 use interfaces::pcr::Pcr;
-use interfaces::state::{PCR_COUNT, PCR_LENGTH, ReaderState};
+use interfaces::state::{PCR_COUNT, ReaderState};
+use tables::put::put;
 
 impl<S: ReaderState> Forecast<S> {
     // A forecast with nothing planned: it means what the state below means.
@@ -18,10 +20,12 @@ impl<S: ReaderState> Forecast<S> {
         ensures below { result.below ≡ below }
         ensures means { forecast_snapshot (plans_of result.planned) (S.ReaderState.observed result.below) ≡ S.ReaderState.observed below }
     {
-        Forecast {
-            below,
-            planned: Planned::new(),
-        }
+        let blank = PlannedPcr {
+            index: 0,
+            value: Pcr::zero(),
+        };
+        let planned = ArrayVec::new(blank);
+        Forecast { below, planned }
     }
 
     // Plans the value of a PCR, in the place of one that was planned for it.
@@ -31,17 +35,10 @@ impl<S: ReaderState> Forecast<S> {
         ensures below { self.new.below ≡ self.old.below }
         ensures means { forecast_snapshot (plans_of self.new.planned) (S.ReaderState.observed self.new.below) ≡ settled (plan_flaw (plans_of self.old.planned) index value.now) (with_pcr (forecast_snapshot (plans_of self.old.planned) (S.ReaderState.observed self.old.below)) index value.now) (forecast_snapshot (plans_of self.old.planned) (S.ReaderState.observed self.old.below)) }
     {
-        if value.len() != PCR_LENGTH {
-            return Err(Code::Size);
-        }
+        let value = Pcr::try_from(value)?;
         if index >= PCR_COUNT {
             return Err(Code::Value);
         }
-        let mut bytes = [0; PCR_LENGTH];
-        bytes.copy_from_slice(value);
-        self.planned.put(PlannedPcr {
-            index,
-            value: Pcr { bytes },
-        })
+        put(&mut self.planned, PlannedPcr { index, value }).map_err(|_| Code::Memory)
     }
 }

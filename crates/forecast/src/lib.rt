@@ -5,4 +5,3 @@ mod calls;
 pub mod forecast;
 pub mod planned;
 mod reading;
-mod table;

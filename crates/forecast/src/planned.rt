@@ -1,8 +1,7 @@
 // The planned PCRs: a plain table of up to eight.
-ghost use Rattle.std.specs.Prelude.{◌≡◌, ◌≤◌, length};
-ghost use Rattle.forecast.specs.Limits.{plan_count};
-
+use arrays::array_vec::ArrayVec;
 use interfaces::pcr::Pcr;
+use tables::put::Keyed;
 
 pub const PLAN_COUNT: usize = 8;
 
@@ -12,10 +11,14 @@ pub struct PlannedPcr {
     pub(crate) value: Pcr,
 }
 
-#[derive(Clone, Copy)]
-pub struct Planned {
-    pub(crate) entries: [PlannedPcr; PLAN_COUNT],
-    pub(crate) used: usize,
-    ghost all: { length entries ≡ plan_count },
-    ghost within: { used ≤ plan_count },
+impl Keyed for PlannedPcr {
+    ghost use Rattle.std.specs.Prelude.{nat_eq};
+
+    ghost same = { λ x y. nat_eq x.index y.index };
+
+    fn has_key_of(&self, other: &PlannedPcr) -> bool {
+        self.index == other.index
+    }
 }
+
+pub type Planned = ArrayVec<PlannedPcr, PLAN_COUNT>;

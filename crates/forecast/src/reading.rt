@@ -1,15 +1,24 @@
 // A forecast, read: a planned PCR has its planned value, all else is as below.
 ghost use Rattle.forecast.specs.Plans.{forecast_snapshot};
 ghost use Rattle.forecast.specs.Views.{plans_of};
-ghost use Rattle.std.specs.Prelude.{◌≡◌, length};
+ghost use Rattle.std.specs.Prelude.{◌≡◌, find, length, nat_eq};
+ghost use Rattle.std.specs.Option.{option_map};
+ghost use Rattle.arrays.specs.Items.{items};
 ghost use Rattle.std.proofs.Common.{◌∙◌};
 ghost use Rattle.interfaces.specs.Checks.{Bytes};
 ghost use Rattle.interfaces.specs.States.{pcr_length};
 ghost use Rattle.forecast.specs.Overlays.{overlaid-length, overlaid_all, planned_long, planned_bytes};
 
 use crate::forecast::Forecast;
+use crate::planned::{Planned, PlannedPcr};
 use interfaces::code::Code;
 use interfaces::state::{ReaderState, admit_pcr};
+
+fn planned_pcr(planned: &Planned, index: usize) -> Option<&PlannedPcr>
+    ensures { option_map (λ p. p.now) result ≡ find (λ p. nat_eq p.index index) (items planned.now) }
+{
+    planned.as_slice().iter().find(|p| p.index == index)
+}
 
 impl<S: ReaderState> ReaderState for Forecast<S> {
     ghost observed = { λ f. forecast_snapshot (plans_of f.planned) (S.ReaderState.observed f.below) };
@@ -33,10 +42,10 @@ impl<S: ReaderState> ReaderState for Forecast<S> {
 
     fn pcr(&self, index: usize, out: &mut [u8]) -> Result<(), Code> {
         admit_pcr(index, out)?;
-        let Some(place) = self.planned.place(index) else {
+        let Some(planned) = planned_pcr(&self.planned, index) else {
             return self.below.pcr(index, out);
         };
-        out.copy_from_slice(&self.planned.entries[place].value.bytes);
+        out.copy_from_slice(&planned.value.bytes);
         Ok(())
     }
 

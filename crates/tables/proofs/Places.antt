@@ -1,6 +1,6 @@
 -- Laws of the places of entries: what they are in the table of the entries' keys and values.
 use Rattle.std.proofs.Common.{arith, inl, inr, ◌⊎◌, ◌≤◌, ◌≡◌, ℕ, suc, ◌+◌, ◌<◌, Bool, true, false, cond, not, ◌||◌, ltb, List, [], ◌∷◌, map, length, get_or, is_some, Some, None, Ok, Err, Option, sym, refl, ap, ◌∙◌}
-use Rattle.std.specs.List.{position, position_or_len}
+use Rattle.std.specs.List.{find, position, position_or_len}
 use Rattle.std.specs.Option.{option_map}
 use Rattle.std.proofs.lemmas.List.{get_or-map, length-map}
 use Rattle.std.proofs.lemmas.Bool.{cases_lt, cond-true, cond-false, le-ltb, lt-ltb}
@@ -48,6 +48,14 @@ module _ {E K V : Type 0} (entry : E → K × V) (same : K → K → Bool) where
 
   pub missing_value : (es : List E) (key : K) → position (λ x. same (entry x).0 key) es ≡ None → value_under same (map entry es) key ≡ None
   missing_value es key missing = place_none same (map entry es) key (sym (place_is es key) ∙ missing)
+
+  pub value_is : (es : List E) (key : K) → option_map (λ e. (entry e).1) (find (λ e. same (entry e).0 key) es) ≡ value_under same (map entry es) key
+  value_is [] key = refl
+  value_is (e ∷ es) key = go (same (entry e).0 key) (value_is es key)
+    where
+      go : (b : Bool) → option_map (λ x. (entry x).1) (find (λ x. same (entry x).0 key) es) ≡ value_under same (map entry es) key → option_map (λ x. (entry x).1) (cond b (Some e) (find (λ x. same (entry x).0 key) es)) ≡ cond b (Some (entry e).1) (value_under same (map entry es) key)
+      go true h = refl
+      go false h = h
 
   put_later : (x : E) (o : Option ℕ) (es : List E) (e : E) → put_at (option_map suc o) (x ∷ es) e ≡ x ∷ put_at o es e
   put_later x None es e = refl

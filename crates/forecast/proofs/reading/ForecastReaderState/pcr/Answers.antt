@@ -1,9 +1,11 @@
-use Rattle.std.proofs.Common.{◌≡◌, ◌<◌, ◌≤◌, eqb, [], length, get_or, Ok, unwrap_or, sym, ap, ◌∙◌, arith, rules}
+use Rattle.std.proofs.Common.{◌≡◌, ◌<◌, eqb, [], length, get_or, Ok, Some, None, unwrap_or, sym, ap, ◌∙◌, arith, rules}
+use Rattle.std.specs.Option.{option_map}
+use Rattle.arrays.specs.Items.{items}
 use Rattle.interfaces.specs.Checks.{done, left_in}
 use Rattle.interfaces.specs.States.{read_pcr}
 use Rattle.interfaces.proofs.Answered.{left_whole, pcr_read}
-use Rattle.tables.proofs.Laws.{place_none, place_some}
-use Rattle.tables.proofs.Used.{used_at}
+use Rattle.tables.specs.Tables.{value_under}
+use Rattle.tables.proofs.Places.{value_is}
 use Rattle.forecast.specs.Plans.{forecast_snapshot}
 use Rattle.forecast.specs.Views.{plan_of, plans_of}
 use Rattle.forecast.specs.Overlays.{overlaid_at}
@@ -18,7 +20,7 @@ returns-in_default g c =
     let room = length c.args.out.now in
     let fits = c.in_ok-admit_pcr.ensures.fits in
     let within : index < length s.pcrs = omega (arith, fits.1, (g.met.S.ReaderState.lawful f.below).pcrs_all) in
-    let none = place_none eqb plans index (sym c.in_default.ensures.value) in
+    let none : value_under eqb plans index ≡ None = sym (value_is plan_of eqb (items f.planned) index) ∙ ap (option_map (λ e. (plan_of e).1)) (sym c.in_default.ensures) in
     let here = overlaid_at plans 0 index s.pcrs index [] (omega arith) within ∙ ap (λ o. unwrap_or o (get_or s.pcrs index [])) none in
     let read = pcr_read s index room fits.0 fits.1 ∙ sym (pcr_read (forecast_snapshot plans s) index room fits.0 fits.1 ∙ ap Ok here) in
     let kept : length c.admit_pcr.new.out ≡ room = search rules in
@@ -30,18 +32,14 @@ returns-in_default g c =
 pub returns : goal.returns
 returns g c =
     let f = c.args.self.now in
-    let p = f.planned in
     let s = g.S.ReaderState.observed f.below in
-    let plans = plans_of p in
+    let plans = plans_of f.planned in
     let index = c.args.index in
     let room = length c.args.out.now in
     let fits = c.in_ok-admit_pcr.ensures.fits in
     let within : index < length s.pcrs = omega (arith, fits.1, (g.met.S.ReaderState.lawful f.below).pcrs_all) in
-    let e = c.index-self-place.result in
-    let known : p.used ≤ length p.entries = search rules in
-    let found = place_some eqb plans index c.in-Some.place (plan_of e) (sym c.in-Some.ensures.value) in
-    let value = ap (λ x. x.1) (used_at plan_of p.used p.entries c.in-Some.place e c.in-Some.ensures.within known) in
-    let here = overlaid_at plans 0 index s.pcrs index [] (omega arith) within ∙ ap (λ o. unwrap_or o (get_or s.pcrs index [])) found ∙ value in
+    let found : value_under eqb plans index ≡ Some (plan_of c.in-Some.planned.now).1 = sym (value_is plan_of eqb (items f.planned) index) ∙ ap (option_map (λ e. (plan_of e).1)) (sym c.in-Some.ensures) in
+    let here = overlaid_at plans 0 index s.pcrs index [] (omega arith) within ∙ ap (λ o. unwrap_or o (get_or s.pcrs index [])) found in
     let out = c.copy_from_slice.new.self in
     let read = pcr_read (forecast_snapshot plans s) index room fits.0 fits.1 ∙ ap Ok (here ∙ sym c.copy_from_slice.ensures.after) in
     let long : length out ≡ room = search rules in
