@@ -9,7 +9,7 @@ returns-in_err-call g c =
     let long = (g.met.H.Hash.lawful self.hash).long in
     λ k e. record {
       called = called_unmade (g.K.Kind.checked self.kind) (g.H.Hash.meaning self.hash) (g.S.ReaderState.observed c.args.state.now) (progress_of self.progress) k c.args.made c.from_residual.result long (λ x t. search rules) (λ code t. search rules) e;
-      kept = record { hash = refl; kind = refl };
+      kept = record { hash = refl {a = self.hash}; kind = refl {a = self.kind} };
     }
 
 pub returns : goal.returns
