@@ -2,7 +2,7 @@
 // came to: `policy_run BLOCK TEXT..`, the names of files.
 #![tactic(auto)]
 
-use anyhow::anyhow;
+use anyhow::Context;
 use report::run::run_report;
 use sha256::Sha256;
 use std::io::Write;
@@ -18,9 +18,7 @@ fn print_run(rt: &HostRuntime, block: &[u8], name: &str) -> anyhow::Result<()> {
 
 fn main(rt: HostRuntime) -> anyhow::Result<()> {
     let mut names = env::args(&rt)?.skip(1);
-    let Some(name) = names.next() else {
-        return Err(anyhow!("no state block is named"));
-    };
+    let name = names.next().context("no state block is named")?;
     let block = fs::read(&rt, name.as_str())?;
     for name in names {
         print_run(&rt, block.as_slice(), name.as_str())?;

@@ -7,7 +7,7 @@ ghost use Rattle.interfaces.specs.States.{name_length, pcr_count, value_limit};
 ghost use Rattle.text.specs.Cut.{tab};
 ghost use Rattle.text.specs.Pairs.{pairs};
 ghost use Rattle.tables.specs.Tables.{place_under};
-ghost use Rattle.block.specs.Layout.{big_endian, block_snapshot, entries_in, number_in, part};
+ghost use Rattle.block.specs.Layout.{big_endian, block_snapshot, entries_in, number_in};
 ghost use Rattle.block.specs.Views.{block_bytes};
 ghost use Rattle.report.specs.Reports.{labelled};
 ghost use Rattle.report.specs.Rooms.{entries_room, entry_room, pcr_room, pcrs_room, presence_room, state_room, time_room};
@@ -46,14 +46,13 @@ fn is_first(block: &Block, name: &[u8], i: usize) -> bool
     block.place(name) == Some(i)
 }
 
-// The number that some bytes of the time info stand for; eight bytes fit a `usize`.
-fn number_in(info: &[u8], at: usize, len: usize) -> usize
-    requires within { at + len ≤ length info.now }
-    requires short { len ≤ 8 }
-    ensures { result ≡ big_endian (part info.now at len) }
+// The number that some bytes stand for; eight bytes fit a `usize`.
+fn number(bytes: &[u8]) -> usize
+    requires { length bytes.now ≤ 8 }
+    ensures { result ≡ big_endian bytes.now }
 {
     let mut n: usize = 0;
-    for b in &info[at..at + len] {
+    for b in bytes {
         n = n * 256 + *b as usize;
     }
     n
@@ -127,11 +126,11 @@ impl<const N: usize> Report<N> {
     {
         let info = time_info(block);
         // Time 8 bytes, clock 8, reset count 4, restart count 4, safe flag 1.
-        self.add_count(b"time", number_in(&info, 0, 8));
-        self.add_count(b"clock", number_in(&info, 8, 8));
-        self.add_count(b"resets", number_in(&info, 16, 4));
-        self.add_count(b"restarts", number_in(&info, 20, 4));
-        self.add_count(b"safe", number_in(&info, 24, 1));
+        self.add_count(b"time", number(&info[..8]));
+        self.add_count(b"clock", number(&info[8..16]));
+        self.add_count(b"resets", number(&info[16..20]));
+        self.add_count(b"restarts", number(&info[20..24]));
+        self.add_count(b"safe", number(&info[24..]));
     }
 
     fn add_presence(&mut self, present: bool)
