@@ -37,9 +37,13 @@ abbrev pub common_set : Option ℕ → ℕ → ℕ
 common_set None set = set
 common_set (Some old) set = bit_and old set
 
+-- A record allows the same value again, and any where nothing is recorded.
+abbrev pub allows : {T : Type 0} → (T → T → Bool) → Option T → T → Bool
+allows same None value = true
+allows same (Some old) value = same old value
+
 abbrev pub same_record : Option ℕ → ℕ → Bool
-same_record None n = true
-same_record (Some old) n = old == n
+same_record = allows (λ old n. old == n)
 
 -- The checks against the records, in both kinds of session.
 abbrev pub assertion_record_flaw : Progress → Assertion → Option Code

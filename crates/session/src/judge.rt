@@ -1,7 +1,7 @@
 // The checks of a call against the records and the state.
 ghost use Rattle.std.specs.Prelude.{◌≡◌, not, map, None, ◌==◌};
 ghost use Rattle.std.specs.Option.{option_map};
-ghost use Rattle.interfaces.specs.declared.code.Code.TheVariants.{Value, Range, PcrChanged};
+ghost use Rattle.interfaces.specs.declared.code.Code.TheVariants.{Value, Range};
 ghost use Rattle.interfaces.specs.Checks.{first, refused_with, unless};
 ghost use Rattle.interfaces.specs.Faults.{call_refusal};
 ghost use Rattle.interfaces.specs.Hashing.{digest_length};
@@ -10,7 +10,7 @@ ghost use Rattle.policy.specs.Views.{assertion_of, digest_bytes};
 ghost use Rattle.calls.specs.Calls.{call_flaw};
 ghost use Rattle.calls.specs.Views.{call_of};
 ghost use Rattle.conditions.specs.Meeting.{unmet};
-ghost use Rattle.session.specs.Steps.{among, common_set, count_flaw, record_flaw, refusal, same_record, state_flaw};
+ghost use Rattle.session.specs.Steps.{allows, among, common_set, count_flaw, record_flaw, refusal, state_flaw};
 ghost use Rattle.session.specs.Views.{progress_of};
 
 use crate::progress::Progress;
@@ -40,22 +40,14 @@ fn judge_set(recorded: Option<u8>, set: u8) -> Result<(), Code>
     Ok(())
 }
 
-fn judge_command(recorded: Option<u32>, code: u32) -> Result<(), Code>
-    ensures { result ≡ refused_with (unless (same_record recorded code) Value) tt }
+// A record allows the same value again, and any where nothing is recorded.
+fn judge_same<T: PartialEq + Drop>(recorded: Option<T>, value: T, refused: Code) -> Result<(), Code>
+    ensures { result ≡ refused_with (unless (allows T.eq recorded value) refused) tt }
 {
-    if recorded.is_some_and(|old| old != code) {
-        return Err(Code::Value);
+    match recorded {
+        Some(old) if old != value => Err(refused),
+        _ => Ok(()),
     }
-    Ok(())
-}
-
-fn judge_count(recorded: Option<u64>, count: u64) -> Result<(), Code>
-    ensures { result ≡ refused_with (unless (same_record recorded count) PcrChanged) tt }
-{
-    if recorded.is_some_and(|old| old != count) {
-        return Err(Code::PcrChanged);
-    }
-    Ok(())
 }
 
 impl Progress {
@@ -64,7 +56,7 @@ impl Progress {
     {
         match call {
             Call::Assert(Assertion::Locality(set)) => judge_set(self.localities, *set),
-            Call::Assert(Assertion::Command(code)) => judge_command(self.command, *code),
+            Call::Assert(Assertion::Command(code)) => judge_same(self.command, *code, Code::Value),
             _ => Ok(()),
         }
     }
@@ -73,7 +65,7 @@ impl Progress {
         ensures { result ≡ refused_with (count_flaw (progress_of self.now) count (assertion_of assertion.now)) tt }
     {
         match assertion {
-            Assertion::Pcr(_, _) => judge_count(self.count, count),
+            Assertion::Pcr(_, _) => judge_same(self.count, count, Code::PcrChanged),
             _ => Ok(()),
         }
     }
