@@ -14,7 +14,7 @@ use interfaces::digest::Digest;
 use interfaces::fault::Refusal;
 use interfaces::hash::Hash;
 use interfaces::name::Name;
-use interfaces::state::{ReaderState, TIME_LENGTH, VALUE_LIMIT};
+use interfaces::state::{ReaderState, VALUE_LIMIT, read_time};
 use policy::assertion::{Assertion, Comparison, Selection};
 
 fn check_pcrs<H: Hash, S: ReaderState>(
@@ -64,10 +64,7 @@ fn check_stored<S: ReaderState>(
 fn check_time<S: ReaderState>(state: &S, comparison: &Comparison) -> Result<(), Code>
     ensures { result ≡ refused_with (comparison_unmet Range (S.observed state.now).time (comparison_of comparison.now)) tt }
 {
-    let mut info = [0; TIME_LENGTH];
-    // A buffer of this length is never refused.
-    let _ = state.time_info(&mut info);
-    check_comparison(&info, comparison, Code::Range)
+    check_comparison(&read_time(state), comparison, Code::Range)
 }
 
 // Judges what an assertion asks of the state as it is: the first refusal, if any.

@@ -7,7 +7,7 @@ ghost use Rattle.conditions.specs.Picking.{bit, byte_bits, picked};
 use arrays::array_vec::ArrayVec;
 use interfaces::digest::Digest;
 use interfaces::hash::Hash;
-use interfaces::state::{PCR_COUNT, PCR_LENGTH, ReaderState};
+use interfaces::state::{PCR_COUNT, PCR_LENGTH, ReaderState, read_pcr};
 use policy::assertion::Selection;
 
 const BYTE_BITS: usize = 8;
@@ -29,10 +29,8 @@ fn append_pcr<S: ReaderState>(state: &S, index: usize, joined: &mut ArrayVec<u8,
     ensures end { length (items joined.new) ≡ length (items joined.old) + pcr_length }
     ensures joined { items joined.new ≡ items joined.old ++ slice_index_or (S.observed state.now).pcrs index [] }
 {
-    let mut value = [0; PCR_LENGTH];
-    // A PCR of this number is read into a buffer of this length without refusal.
-    let _ = state.pcr(index, &mut value);
-    joined.extend(&value).unwrap();
+    let value = read_pcr(state, index).unwrap();
+    joined.extend(&value.bytes).unwrap();
 }
 
 // Joins the values of the picked PCRs in rising order.

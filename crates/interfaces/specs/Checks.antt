@@ -31,6 +31,10 @@ settled (Some c) after before = before
 abbrev pub fitting : List ℕ → ℕ → Result (List ℕ) Code
 fitting bs room = refused_with (unless (nat_le (length bs) room) Size) bs
 
+-- The check of a buffer of `room` bytes that should have n.
+abbrev pub length_flaw : ℕ → ℕ → Option Code
+length_flaw n room = unless (room == n) Size
+
 -- Bytes that should have a length.
 abbrev pub of_length : ℕ → List ℕ → Result (List ℕ) Code
 of_length n bs = refused_with (unless (length bs == n) Size) bs

@@ -2,9 +2,14 @@
 use Rattle.std.specs.Prelude.{ℕ}
 use Rattle.interfaces.specs.declared.code.Code.{Code}
 use Rattle.interfaces.specs.declared.code.Code.TheVariants.{Value}
+use Rattle.interfaces.specs.declared.fault.Layer.{Layer}
 use Rattle.interfaces.specs.declared.fault.Layer.TheVariants.{Text, State, Call}
 use Rattle.interfaces.specs.declared.fault.Refusal.{Refusal}
 use Rattle.interfaces.specs.declared.fault.Fault.{Fault}
+
+-- A refusal by this part of the chest.
+abbrev pub refusal_of : Layer → Code → Refusal
+refusal_of l c = record { layer = l; code = c }
 
 -- The line has none of the forms that its text allows, or the stack does not allow it.
 abbrev pub form_refusal : Refusal

@@ -3,7 +3,7 @@ use Rattle.std.specs.Prelude.{◌≡◌, ℕ, ◌^◌, ◌<◌, ◌≤◌, Bool,
 use Rattle.std.specs.List.{AllByRecursion}
 use Rattle.interfaces.specs.declared.code.Code.{Code}
 use Rattle.interfaces.specs.declared.code.Code.TheVariants.{Value, Handle, Size}
-use Rattle.interfaces.specs.Checks.{Bytes, first, unless, refused_with}
+use Rattle.interfaces.specs.Checks.{Bytes, first, length_flaw, unless, refused_with}
 
 -- The number of PCRs (platform configuration registers), and the length of each in bytes. It stays
 -- as it is where a hash has longer digests.
@@ -57,13 +57,13 @@ pub record Sound (s : Snapshot) : Type 0 where
 
 -- The checks of reading, in their order: first the lengths, that of the buffer (`room`) among them.
 abbrev pub pcr_flaw : ℕ → ℕ → Option Code
-pcr_flaw index room = first (unless (room == pcr_length) Size) (unless (nat_lt index pcr_count) Value)
+pcr_flaw index room = first (length_flaw pcr_length room) (unless (nat_lt index pcr_count) Value)
 
 abbrev pub stored_flaw : List ℕ → ℕ → Option Code
 stored_flaw name room = unless (length name == name_length && room == value_limit) Size
 
 abbrev pub time_flaw : ℕ → Option Code
-time_flaw room = unless (room == time_length) Size
+time_flaw room = length_flaw time_length room
 
 -- What reading a PCR, the value stored under a Name, and the time info come to.
 abbrev pub read_pcr : Snapshot → ℕ → ℕ → Result (List ℕ) Code

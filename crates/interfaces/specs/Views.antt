@@ -4,6 +4,7 @@ use Rattle.interfaces.specs.declared.byte_array.ByteArray.{ByteArray}
 use Rattle.interfaces.specs.declared.digest.Digest.{Digest}
 use Rattle.interfaces.specs.States.{pcr_length}
 
+-- The bytes of a PCR's value, and of a digest.
 abbrev pub pcr_bytes : ByteArray pcr_length → List ℕ
 pcr_bytes p = p.bytes
 

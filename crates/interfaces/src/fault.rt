@@ -1,7 +1,7 @@
 // Where a text or a call was refused, and why.
 ghost use Rattle.std.specs.Prelude.{◌≡◌};
 ghost use Rattle.interfaces.specs.Numbers.{layer_number, layer_word};
-ghost use Rattle.interfaces.specs.Faults.{fault_at, form_refusal, text_refusal, state_refusal, call_refusal};
+ghost use Rattle.interfaces.specs.Faults.{fault_at, refusal_of, form_refusal, text_refusal, state_refusal, call_refusal};
 
 use crate::code::Code;
 
@@ -43,6 +43,12 @@ pub struct Refusal {
 }
 
 impl Refusal {
+    fn of(layer: Layer, code: Code) -> Refusal
+        ensures { result ≡ refusal_of layer code }
+    {
+        Refusal { layer, code }
+    }
+
     // A line that no word's form allows.
     pub fn form() -> Refusal
         ensures { result ≡ form_refusal }
@@ -53,28 +59,19 @@ impl Refusal {
     pub fn text(code: Code) -> Refusal
         ensures { result ≡ text_refusal code }
     {
-        Refusal {
-            layer: Layer::Text,
-            code,
-        }
+        Refusal::of(Layer::Text, code)
     }
 
     pub fn call(code: Code) -> Refusal
         ensures { result ≡ call_refusal code }
     {
-        Refusal {
-            layer: Layer::Call,
-            code,
-        }
+        Refusal::of(Layer::Call, code)
     }
 
     pub fn state(code: Code) -> Refusal
         ensures { result ≡ state_refusal code }
     {
-        Refusal {
-            layer: Layer::State,
-            code,
-        }
+        Refusal::of(Layer::State, code)
     }
 
     pub fn at(self, line: usize) -> Fault

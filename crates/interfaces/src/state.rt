@@ -1,12 +1,14 @@
 // The reader state as an interface: PCRs, their change count, stored values, time info, locality
 // and presence, as they are at one moment.
 ghost use Rattle.std.specs.Prelude.{◌≡◌, ◌<◌, length, replicate, OnOk};
-ghost use Rattle.interfaces.specs.Checks.{counted, done, left_in, refused_with, settled};
+ghost use Rattle.interfaces.specs.Checks.{counted, done, left_in, meant, refused_with, settled};
+ghost use Rattle.interfaces.specs.Views.{pcr_bytes};
 ghost use Rattle.interfaces.specs.States.{Snapshot, Sound, pcr_count, pcr_length, name_length, value_limit, time_length, pcr_flaw, stored_flaw, time_flaw, read_pcr, read_stored, read_time};
 
-use crate::buffer::clear;
+use crate::buffer::{admit_length, clear};
 use crate::code::Code;
 use crate::name::NAME_LENGTH;
+use crate::pcr::Pcr;
 
 // PCRs are numbered from 0.
 pub const PCR_COUNT: usize = 24;
@@ -59,10 +61,7 @@ pub fn admit_pcr(index: usize, out: &mut [u8]) -> Result<(), Code>
     ensures after { out.new ≡ settled (pcr_flaw index (length out.old)) out.old (replicate (length out.old) 0) }
     ensures fits { OnOk result ((length out.old ≡ pcr_length) × (index < pcr_count)) }
 {
-    if out.len() != PCR_LENGTH {
-        clear(out);
-        return Err(Code::Size);
-    }
+    admit_length(out, PCR_LENGTH)?;
     if index >= PCR_COUNT {
         clear(out);
         return Err(Code::Value);
@@ -89,9 +88,24 @@ pub fn admit_time(out: &mut [u8]) -> Result<(), Code>
     ensures after { out.new ≡ settled (time_flaw (length out.old)) out.old (replicate (length out.old) 0) }
     ensures fits { OnOk result (length out.old ≡ time_length) }
 {
-    if out.len() != TIME_LENGTH {
-        clear(out);
-        return Err(Code::Size);
-    }
-    Ok(())
+    admit_length(out, TIME_LENGTH)
+}
+
+// The value of a PCR, by itself.
+pub fn read_pcr<S: ReaderState>(state: &S, index: usize) -> Result<Pcr, Code>
+    ensures { meant pcr_bytes result ≡ read_pcr (S.observed state.now) index pcr_length }
+{
+    let mut bytes = [0; PCR_LENGTH];
+    state.pcr(index, &mut bytes)?;
+    Ok(Pcr { bytes })
+}
+
+// The time info, by itself.
+pub fn read_time<S: ReaderState>(state: &S) -> [u8; TIME_LENGTH]
+    ensures { result ≡ (S.observed state.now).time }
+{
+    let mut info = [0; TIME_LENGTH];
+    // A buffer of this length is never refused.
+    let _ = state.time_info(&mut info);
+    info
 }

@@ -6,11 +6,11 @@ ghost use Rattle.interfaces.specs.Hashing.{digest_length};
 ghost use Rattle.text.specs.Cut.{further};
 ghost use Rattle.policy.specs.Judging.{read_line_as};
 ghost use Rattle.policy.specs.Lines.{extend};
-ghost use Rattle.policy.specs.Reading.{parse_any, parse_assertion, parse_start, parse_word, read_line, Reads};
+ghost use Rattle.policy.specs.Reading.{parse_any, parse_assertion, parse_word, read_line, Reads};
 ghost use Rattle.policy.specs.Views.{line_of};
 
 use crate::assertion::Assertion;
-use crate::read::read_assertion;
+use crate::read::{read_assertion, read_none};
 use interfaces::code::Code;
 use interfaces::fault::Refusal;
 use text::cut::{Fields, first_field};
@@ -31,15 +31,6 @@ pub enum Line {
     Extend(Assertion),
 }
 
-fn read_start(rest: Option<&[u8]>) -> Result<Line, Refusal>
-    ensures { meant line_of result ≡ read_line_as parse_start (further (option_map (λ x. x.now) rest.entry)) }
-{
-    match Fields::new(rest).next() {
-        None => Ok(Line::Start),
-        Some(_) => Err(Refusal::form()),
-    }
-}
-
 fn read_any(rest: Option<&[u8]>) -> Result<Line, Refusal>
     ensures { meant line_of result ≡ read_line_as parse_any (further (option_map (λ x. x.now) rest.entry)) }
 {
@@ -58,7 +49,10 @@ fn read_word(word: &[u8], rest: Option<&[u8]>) -> Result<Line, Refusal>
     ensures { meant line_of result ≡ read_line_as (parse_word word.now) (further (option_map (λ x. x.now) rest.entry)) }
 {
     match word {
-        b"start" => read_start(rest),
+        b"start" => {
+            read_none(rest).ok_or(Refusal::form())?;
+            Ok(Line::Start)
+        }
         b"any" => read_any(rest),
         _ => Ok(Line::Extend(read_assertion(word, rest)?)),
     }

@@ -1,10 +1,10 @@
 // Assertions read from the fields of a line: the form of all fields first, then their checks.
-ghost use Rattle.std.specs.Prelude.{◌≡◌, None};
+ghost use Rattle.std.specs.Prelude.{◌≡◌};
 ghost use Rattle.std.specs.Option.{option_map};
 ghost use Rattle.interfaces.specs.Checks.{meant};
 ghost use Rattle.text.specs.Cut.{further};
-ghost use Rattle.policy.specs.Reading.{parse_pcr, parse_nv, parse_time, parse_locality, parse_command, parse_bare, parse_assertion};
-ghost use Rattle.policy.specs.Judging.{read_as, call_flaw};
+ghost use Rattle.policy.specs.Reading.{parse_pcr, parse_nv, parse_time, parse_locality, parse_command, none, parse_assertion};
+ghost use Rattle.policy.specs.Judging.{read_as};
 ghost use Rattle.policy.specs.Views.{assertion_of};
 
 use crate::assertion::{Assertion, Selection};
@@ -94,13 +94,13 @@ fn read_command(rest: Option<&[u8]>) -> Result<Assertion, Refusal>
     Ok(Assertion::Command(u32::from_be_bytes(code)))
 }
 
-fn read_bare(assertion: Assertion, rest: Option<&[u8]>) -> Result<Assertion, Refusal>
-    requires { call_flaw (assertion_of assertion) ≡ None }
-    ensures { meant assertion_of result ≡ read_as (parse_bare (assertion_of assertion)) (further (option_map (λ x. x.now) rest.entry)) }
+// That no field follows the word.
+pub(crate) fn read_none(rest: Option<&[u8]>) -> Option<()>
+    ensures { result ≡ none (further (option_map (λ x. x.now) rest.entry)) }
 {
     match Fields::new(rest).next() {
-        None => Ok(assertion),
-        Some(_) => Err(Refusal::form()),
+        None => Some(()),
+        Some(_) => None,
     }
 }
 
@@ -114,8 +114,14 @@ pub fn read_assertion(word: &[u8], rest: Option<&[u8]>) -> Result<Assertion, Ref
         b"time" => read_time(rest),
         b"locality" => read_locality(rest),
         b"command" => read_command(rest),
-        b"presence" => read_bare(Assertion::Presence, rest),
-        b"password" => read_bare(Assertion::Password, rest),
+        b"presence" => {
+            read_none(rest).ok_or(Refusal::form())?;
+            Ok(Assertion::Presence)
+        }
+        b"password" => {
+            read_none(rest).ok_or(Refusal::form())?;
+            Ok(Assertion::Password)
+        }
         _ => Err(Refusal::form()),
     }
 }

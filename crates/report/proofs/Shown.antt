@@ -1,30 +1,19 @@
 -- What the lines of a state report show.
-use Rattle.std.proofs.Common.{◌≡◌, ℕ, ◌+◌, ◌*◌, ◌<◌, ◌≤◌, true, cond, ltb, List, [], ◌∷◌, ◌++◌, length, get_or, Some, None, Ok, Err, Option, unwrap_or, sym, refl, ap, ◌∙◌, arith}
+use Rattle.std.proofs.Common.{◌≡◌, ℕ, ◌+◌, ◌<◌, ◌≤◌, true, cond, ltb, List, [], ◌∷◌, ◌++◌, length, Some, None, Ok, Err, Option, unwrap_or, sym, refl, ap, ◌∙◌, arith}
 use Rattle.std.specs.List.{range_with_len, flat_map}
-use Rattle.std.proofs.lemmas.List.FromFn.{get_or-map-range_with_len, map-range_with_len_more}
+use Rattle.std.proofs.lemmas.List.FromFn.{map-range_with_len_more}
 use Rattle.std.proofs.lemmas.List.{flat_map_more, map-id}
 use Rattle.std.proofs.lemmas.Bool.{cond-true, lt-ltb}
 use Rattle.interfaces.specs.declared.code.Code.{Code}
-use Rattle.interfaces.specs.Checks.{left_in, refused_with}
+use Rattle.interfaces.specs.Checks.{refused_with}
 use Rattle.interfaces.specs.Faults.{call_refusal, fault_at}
-use Rattle.interfaces.specs.States.{name_length, pcr_count, pcr_length, read_pcr, read_time, time_length, value_limit}
-use Rattle.interfaces.proofs.Answered.{left_whole, pcr_read}
-use Rattle.block.specs.Layout.{block_length, block_snapshot, entry_at, entry_in, in_range, number_in, pcr_in, time_at}
+use Rattle.interfaces.specs.States.{name_length, value_limit}
+use Rattle.block.specs.Layout.{block_length, block_snapshot, entry_at, entry_in, in_range, number_in}
 use Rattle.block.specs.Entries.{value_short}
 use Rattle.block.specs.Parts.{part-long}
 use Rattle.block.specs.Ranges.{ranges}
 use Rattle.report.specs.Reports.{shown_fault}
 use Rattle.report.specs.StateReports.{shown_block, shown_state}
-
-pcr-long : (bs : List ℕ) (i : ℕ) → length bs ≡ block_length → i < pcr_count → length (get_or (block_snapshot bs).pcrs i []) ≡ pcr_length
-pcr-long bs i long h = ap length (get_or-map-range_with_len (pcr_in bs) 0 pcr_count i i [] h (omega arith)) ∙ part-long bs (pcr_length * i) pcr_length (omega arith)
-
--- a PCR and the time info, as they are read
-pub pcr_read_is : (bs : List ℕ) (i : ℕ) (out : List ℕ) → length bs ≡ block_length → i < pcr_count → out ≡ left_in pcr_length (read_pcr (block_snapshot bs) i pcr_length) → out ≡ get_or (block_snapshot bs).pcrs i []
-pcr_read_is bs i out long h e = e ∙ ap (left_in pcr_length) (pcr_read (block_snapshot bs) i pcr_length refl h) ∙ left_whole _ pcr_length (pcr-long bs i long h)
-
-pub time_read_is : (bs out : List ℕ) → length bs ≡ block_length → out ≡ left_in time_length (read_time (block_snapshot bs) time_length) → out ≡ (block_snapshot bs).time
-time_read_is bs out long e = e ∙ left_whole _ time_length (part-long bs time_at time_length (omega arith))
 
 -- the lengths of a used entry, as it is read
 pub record EntryLengths (name value : List ℕ) : Type 0 where

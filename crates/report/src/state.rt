@@ -1,5 +1,5 @@
 // The report on a state block.
-ghost use Rattle.std.specs.Prelude.{◌≡◌, ◌+◌, ◌<◌, ◌≤◌, [], ◌∷◌, ◌++◌, length, codes, ◌==◌, slice_index_or};
+ghost use Rattle.std.specs.Prelude.{◌≡◌, ◌+◌, ◌<◌, ◌≤◌, [], ◌∷◌, ◌++◌, length, codes, ◌==◌};
 ghost use Rattle.std.specs.List.{range_with_len, flat_map};
 ghost use Rattle.std.specs.Option.{unwrap_or};
 ghost use Rattle.std.specs.Str.{bytes_eq};
@@ -17,26 +17,7 @@ ghost use Rattle.report.specs.Views.{Adds, report_bytes};
 use crate::report::{Report, STATE_REPORT_LIMIT};
 use block::block::Block;
 use interfaces::fault::Refusal;
-use interfaces::state::{PCR_COUNT, PCR_LENGTH, ReaderState, TIME_LENGTH};
-
-fn pcr_value(block: &Block, index: usize) -> [u8; PCR_LENGTH]
-    requires { index < pcr_count }
-    ensures { result ≡ slice_index_or (block_snapshot (block_bytes block.now)).pcrs index [] }
-{
-    let mut value = [0; PCR_LENGTH];
-    // A PCR of this number is read into a buffer of this length without refusal.
-    let _ = block.pcr(index, &mut value);
-    value
-}
-
-fn time_info(block: &Block) -> [u8; TIME_LENGTH]
-    ensures { result ≡ (block_snapshot (block_bytes block.now)).time }
-{
-    let mut info = [0; TIME_LENGTH];
-    // A buffer of this length is never refused.
-    let _ = block.time_info(&mut info);
-    info
-}
+use interfaces::state::{PCR_COUNT, PCR_LENGTH, ReaderState, read_pcr, read_time};
 
 // Whether an entry is the first of its Name.
 fn is_first(block: &Block, name: &[u8], i: usize) -> bool
@@ -46,16 +27,18 @@ fn is_first(block: &Block, name: &[u8], i: usize) -> bool
     block.place(name) == Some(i)
 }
 
-// The number that some bytes stand for; eight bytes fit a `usize`.
-fn number(bytes: &[u8]) -> usize
-    requires { length bytes.now ≤ 8 }
+fn wide(bytes: &[u8]) -> usize
+    requires { length bytes.now ≡ 8 }
     ensures { result ≡ big_endian bytes.now }
 {
-    let mut n: usize = 0;
-    for b in bytes {
-        n = n * 256 + *b as usize;
-    }
-    n
+    u64::from_be_bytes(bytes.try_into().unwrap()) as usize
+}
+
+fn narrow(bytes: &[u8]) -> usize
+    requires { length bytes.now ≡ 4 }
+    ensures { result ≡ big_endian bytes.now }
+{
+    u32::from_be_bytes(bytes.try_into().unwrap()) as usize
 }
 
 impl<const N: usize> Report<N> {
@@ -65,14 +48,14 @@ impl<const N: usize> Report<N> {
         requires room { length (report_bytes self.old) + pcr_room ≤ N }
         ensures { Adds (report_bytes self.old) (shown_pcr (block_snapshot (block_bytes block.now)).pcrs index) pcr_room (report_bytes self.new) }
     {
-        let value = pcr_value(block, index);
-        if value == [0; PCR_LENGTH] {
+        let value = read_pcr(block, index).unwrap();
+        if value.bytes == [0; PCR_LENGTH] {
             return;
         }
         self.add(b"pcr\t");
         self.add_decimal(index);
         self.add(b"\t");
-        self.add_pairs(&value);
+        self.add_pairs(&value.bytes);
         self.add(b"\n");
     }
 
@@ -124,13 +107,13 @@ impl<const N: usize> Report<N> {
         requires { length (report_bytes self.old) + time_room ≤ N }
         ensures { Adds (report_bytes self.old) (shown_time (block_snapshot (block_bytes block.now)).time) time_room (report_bytes self.new) }
     {
-        let info = time_info(block);
+        let info = read_time(block);
         // Time 8 bytes, clock 8, reset count 4, restart count 4, safe flag 1.
-        self.add_count(b"time", number(&info[..8]));
-        self.add_count(b"clock", number(&info[8..16]));
-        self.add_count(b"resets", number(&info[16..20]));
-        self.add_count(b"restarts", number(&info[20..24]));
-        self.add_count(b"safe", number(&info[24..]));
+        self.add_count(b"time", wide(&info[..8]));
+        self.add_count(b"clock", wide(&info[8..16]));
+        self.add_count(b"resets", narrow(&info[16..20]));
+        self.add_count(b"restarts", narrow(&info[20..24]));
+        self.add_count(b"safe", info[24] as usize);
     }
 
     fn add_presence(&mut self, present: bool)

@@ -1,4 +1,3 @@
-pub mod Judged
 pub mod Stepping
 pub mod Running
 pub mod Among

@@ -10,7 +10,7 @@ ghost use Rattle.session.specs.Views.{progress_of};
 use crate::kind::{Kind, Policy, Trial};
 use crate::progress::Progress;
 use crate::session::Session;
-use interfaces::buffer::clear;
+use interfaces::buffer::admit_length;
 use interfaces::code::Code;
 use interfaces::digest::DIGEST_LENGTH;
 use interfaces::hash::Hash;
@@ -89,10 +89,7 @@ impl<H: Hash, K: Kind> Session<H, K> {
         ensures answer { result ≡ done (read_digest (progress_of self.now.progress) (length out.old)) }
         ensures written { out.new ≡ left_in (length out.old) (read_digest (progress_of self.now.progress) (length out.old)) }
     {
-        if out.len() != DIGEST_LENGTH {
-            clear(out);
-            return Err(Code::Size);
-        }
+        admit_length(out, DIGEST_LENGTH)?;
         out.copy_from_slice(&self.progress.digest.bytes);
         Ok(())
     }

@@ -1,4 +1,5 @@
 // The sizes and the constants of SHA3-256.
+
 // The rate, which is the length of a block, in bytes.
 pub(crate) const RATE: usize = 136;
 

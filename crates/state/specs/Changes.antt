@@ -58,10 +58,11 @@ pub record Holding (s : Snapshot) (number : ℕ) : Type 0 where
   pub once : (i j : ℕ) → i < length names → j < length names → slice_index_or names i [] ≡ slice_index_or names j [] → i ≡ j
   pub exactly : (name : List ℕ) → Decides (is_some (s.stored name)) (ContainsAt names name)
 
--- Putting a value: one more than the most is refused, unless it replaces one.
+-- A Name and a value each have their lengths.
 abbrev pub lengths_flaw : List ℕ → List ℕ → Option Code
 lengths_flaw name value = unless (length name == name_length && nat_le (length value) value_limit) Size
 
+-- Putting a value: one more than the most is refused, unless it replaces one.
 abbrev pub put_flaw : Snapshot → ℕ → List ℕ → List ℕ → Option Code
 put_flaw s number name value = first (lengths_flaw name value) (unless (is_some (s.stored name) || nat_lt number value_count) Memory)
 

@@ -7,7 +7,7 @@ ghost use Rattle.state.specs.Changes.{blank, extend_flaw, with_pcr_extended, len
 ghost use Rattle.state.specs.Entries.{entry_of};
 ghost use Rattle.state.specs.Views.{own_snapshot};
 
-use crate::entry::{Entry, StoredValue};
+use crate::entry::Entry;
 use crate::own::Own;
 use crate::time::TimeInfo;
 use crate::values::Values;

@@ -11,8 +11,8 @@ use Rattle.policy.proofs.Words.{spelled, misspelled}
 use Rattle.policy.proofs.line.read_word.Goals as goal
 use Rattle.policy.proofs.line.read_word.Goals.{In_default}
 
-pub returns-in-start : goal.returns-in-start
-returns-in-start c = rw (spelled c.args.word.now (codes "start") (omega arith)) c.read_start.ensures
+pub returns-in_ok-ok_or-in-start : goal.returns-in_ok-ok_or-in-start
+returns-in_ok-ok_or-in-start c = rw (spelled c.args.word.now (codes "start") (omega arith)) (search rules)
 
 neither : (c : In_default) → (bytes_eq c.args.word.now (codes "start") ≡ false) × (bytes_eq c.args.word.now (codes "any") ≡ false)
 neither c =
@@ -30,5 +30,5 @@ returns-in_err-read_assertion-in_default c =
     let parsed = parse_assertion c.args.word.now (further (option_map (λ x. x.now) c.args.rest)) in
     let n = neither (goal.at.returns-in_err-read_assertion-in_default c).In_default in
     let told = extension parsed _ c.in_err-read_assertion-in_default.ensures in
-    let failed : meant line_of c.from_residual.result ≡ judged (line_flaw digest_length) (option_map extend parsed) = search rules in
+    let failed : meant line_of c.from_residual-in_err-read_assertion-in_default.result ≡ judged (line_flaw digest_length) (option_map extend parsed) = search rules in
     rw (n.0, n.1) failed

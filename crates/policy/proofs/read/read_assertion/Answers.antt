@@ -1,4 +1,4 @@
-use Rattle.std.proofs.Common.{codes, Err, ap, arith}
+use Rattle.std.proofs.Common.{codes, Err, ap, arith, rules}
 use Rattle.policy.proofs.Words.{spelled, misspelled}
 use Rattle.policy.proofs.read.read_assertion.Goals as goal
 
@@ -11,11 +11,11 @@ returns-in-locality c = rw (spelled c.args.word.now (codes "locality") (omega ar
 pub returns-in-command : goal.returns-in-command
 returns-in-command c = rw (spelled c.args.word.now (codes "command") (omega arith)) c.read_command.ensures
 
-pub returns-in-presence : goal.returns-in-presence
-returns-in-presence c = rw (spelled c.args.word.now (codes "presence") (omega arith)) c.read_bare.ensures
+pub returns-in_ok-ok_or-in-presence : goal.returns-in_ok-ok_or-in-presence
+returns-in_ok-ok_or-in-presence c = rw (spelled c.args.word.now (codes "presence") (omega arith)) (search rules)
 
-pub returns-in-password : goal.returns-in-password
-returns-in-password c = rw (spelled c.args.word.now (codes "password") (omega arith)) c.read_bare-in-password.ensures
+pub returns-in_ok-ok_or-in-password : goal.returns-in_ok-ok_or-in-password
+returns-in_ok-ok_or-in-password c = rw (spelled c.args.word.now (codes "password") (omega arith)) (search rules)
 
 pub returns-in_default : goal.returns-in_default
 returns-in_default c =
@@ -27,4 +27,4 @@ returns-in_default c =
     let command = misspelled word (codes "command") (λ s. grind arith) in
     let presence = misspelled word (codes "presence") (λ s. grind arith) in
     let password = misspelled word (codes "password") (λ s. grind arith) in
-    rw (pcr, nv, time, locality, command, presence, password) (ap Err c.form.ensures)
+    rw (pcr, nv, time, locality, command, presence, password) (ap Err c.form-in_default.ensures)
