@@ -1,3 +1,7 @@
 pub mod Stepping
 pub mod Running
 pub mod Among
+pub mod Histories
+pub mod Strings
+pub mod Records
+pub mod KeptBranches

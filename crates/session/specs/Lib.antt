@@ -1,6 +1,9 @@
+pub mod Books
+pub mod Openings
 pub mod Steps
 pub mod Runs
 pub mod Events
+pub mod History
 pub mod Kept
 pub mod Reading
 pub mod Views

@@ -41,7 +41,11 @@ fn judge_set(recorded: Option<u8>, set: u8) -> Result<(), Code>
 }
 
 // A record allows the same value again, and any where nothing is recorded.
-fn judge_same<T: PartialEq + Drop>(recorded: Option<T>, value: T, refused: Code) -> Result<(), Code>
+pub fn judge_same<T: PartialEq + Drop>(
+    recorded: Option<T>,
+    value: T,
+    refused: Code,
+) -> Result<(), Code>
     ensures { result ≡ refused_with (unless (allows T.eq recorded value) refused) tt }
 {
     match recorded {

@@ -2,7 +2,7 @@
 #![tactic(auto)]
 
 mod calling;
-mod judge;
+pub mod judge;
 pub mod kind;
 mod life;
 pub mod progress;

@@ -84,6 +84,13 @@ impl<H: Hash, K: Kind> Session<H, K> {
         self.progress
     }
 
+    // The identifier of the session's hash.
+    pub fn identifier(&self) -> u16
+        ensures { result ≡ (H.meaning self.now.hash).identifier }
+    {
+        self.hash.identifier()
+    }
+
     // Writes the session's digest.
     pub fn read_digest(&self, out: &mut [u8]) -> Result<(), Code>
         ensures answer { result ≡ done (read_digest (progress_of self.now.progress) (length out.old)) }
