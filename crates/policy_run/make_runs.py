@@ -170,4 +170,5 @@ def main():
         f.write("dock.block\n" + "".join(name + "\n" for name in RUNS))
 
 
-main()
+if __name__ == "__main__":
+    main()

@@ -38,11 +38,12 @@ counting_more n = sym (sym (map-id (range_with_len 0 (n + 1))) ∙ map-range_wit
 pub joined_step : (f : ℕ → List ℕ) (p before after : List ℕ) (n : ℕ) → after ≡ before ++ f n → before ≡ p ++ flat_map f (range_with_len 0 n) → after ≡ p ++ flat_map f (range_with_len 0 (n + 1))
 joined_step f p before after n a b = a ∙ ap (λ l. l ++ f n) b ∙ flat_map_more f p (range_with_len 0 n) n ∙ ap (λ l. p ++ flat_map f l) (counting_more n)
 
--- what a block shows once it is taken or refused
-pub taken-is : (flaw : Option Code) (bs taken : List ℕ) → Ok taken ≡ refused_with flaw bs → (flaw ≡ None) × (taken ≡ bs)
-taken-is None bs taken e = (refl, (let same : taken ≡ bs = cc in same))
-taken-is (Some d) bs taken e = absurd (let z : ◌≡◌ {A = ℕ} 0 1 = cc in omega arith)
+-- what is taken has no flaw, and is what was given
+pub taken-is : {A : Type 0} (flaw : Option Code) (given taken : A) → Ok taken ≡ refused_with flaw given → (flaw ≡ None) × (taken ≡ given)
+taken-is None given taken e = (refl, (let same : taken ≡ given = cc in same))
+taken-is (Some d) given taken e = absurd (let z : ◌≡◌ {A = ℕ} 0 1 = cc in omega arith)
 
+-- what a block shows once it is taken or refused
 pub taken-shown : (flaw : Option Code) (bs taken : List ℕ) → Ok taken ≡ refused_with flaw bs → shown_state (block_snapshot taken) taken ≡ shown_block flaw bs
 taken-shown flaw bs taken e =
     let is = taken-is flaw bs taken e in

@@ -1,3 +1,5 @@
+pub mod BookFiles
+pub mod OpeningReports
 pub mod Reports
 pub mod RunReports
 pub mod StateReports

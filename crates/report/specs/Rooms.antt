@@ -1,7 +1,8 @@
--- The most bytes that the parts of a state report take.
+-- The most bytes that the parts of a report take.
 use Rattle.std.specs.Prelude.{ℕ, ◌+◌, ◌*◌}
 use Rattle.interfaces.specs.States.{pcr_count}
 use Rattle.block.specs.Layout.{entry_count}
+use Rattle.session.specs.Books.{content_limit}
 
 -- A line with a number: a word's length, a tab, 20 digits and a line feed.
 abbrev pub number_room : ℕ → ℕ
@@ -32,3 +33,15 @@ presence_room = 13
 -- The words `count` and `locality` among the parts.
 abbrev pub state_room : ℕ
 state_room = pcrs_room + number_room 5 + entries_room + time_room + number_room 8 + presence_room
+
+-- The session: its digest and its five records.
+abbrev pub progress_room : ℕ
+progress_room = 158
+
+-- A fault, or a number of lines.
+abbrev pub lines_room : ℕ
+lines_room = 129
+
+-- The word `content` and a tab, the content as pairs and a line feed. A refusal is shorter.
+abbrev pub content_room : ℕ
+content_room = 8 + 2 * content_limit + 1

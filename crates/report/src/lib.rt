@@ -1,7 +1,9 @@
 // What the programs print, made as bytes.
 #![tactic(auto)]
 
+mod book_file;
 pub mod digest;
+pub mod opening;
 mod pieces;
 pub mod report;
 pub mod run;

@@ -43,9 +43,31 @@ impl<const N: usize> Report<N> {
         self.add_decimal(n);
         self.add(b"\n");
     }
+
+    // A word, a tab, bytes as pairs and a line feed.
+    pub(crate) fn add_bytes(&mut self, word: &[u8], bytes: &[u8])
+        requires { length (report_bytes self.old) + length word.now + 2 * length bytes.now + 2 ≤ N }
+        ensures { Adds (report_bytes self.old) (labelled word.now (pairs bytes.now)) (length word.now + 2 * length bytes.now + 2) (report_bytes self.new) }
+    {
+        self.add(word);
+        self.add(b"\t");
+        self.add_pairs(bytes);
+        self.add(b"\n");
+    }
+
+    // A word, a tab, another word and a line feed.
+    pub(crate) fn add_word(&mut self, word: &[u8], value: &[u8])
+        requires { length (report_bytes self.old) + length word.now + length value.now + 2 ≤ N }
+        ensures { Adds (report_bytes self.old) (labelled word.now value.now) (length word.now + length value.now + 2) (report_bytes self.new) }
+    {
+        self.add(word);
+        self.add(b"\t");
+        self.add(value);
+        self.add(b"\n");
+    }
 }
 
-fn code_digits(code: Code) -> [u8; 3]
+pub(crate) fn code_digits(code: Code) -> [u8; 3]
     ensures { result ≡ shown_code code }
 {
     let n = u16::from(code);

@@ -5,6 +5,7 @@ ghost use Rattle.policy.specs.Lines.{be4};
 ghost use Rattle.session.specs.Views.{progress_of};
 ghost use Rattle.report.specs.RunReports.{run_report, shown_lines, shown_need, shown_progress, shown_record};
 ghost use Rattle.report.specs.Reports.{labelled};
+ghost use Rattle.report.specs.Rooms.{lines_room, progress_room};
 ghost use Rattle.report.specs.Views.{Adds, report_bytes};
 
 use crate::report::{Report, STATE_REPORT_LIMIT};
@@ -15,28 +16,6 @@ use session::progress::Progress;
 use session::session::Session;
 
 impl<const N: usize> Report<N> {
-    // A word, a tab, bytes as pairs and a line feed.
-    fn add_bytes(&mut self, word: &[u8], bytes: &[u8])
-        requires { length (report_bytes self.old) + length word.now + 2 * length bytes.now + 2 ≤ N }
-        ensures { Adds (report_bytes self.old) (labelled word.now (pairs bytes.now)) (length word.now + 2 * length bytes.now + 2) (report_bytes self.new) }
-    {
-        self.add(word);
-        self.add(b"\t");
-        self.add_pairs(bytes);
-        self.add(b"\n");
-    }
-
-    // A word, a tab, another word and a line feed.
-    fn add_word(&mut self, word: &[u8], value: &[u8])
-        requires { length (report_bytes self.old) + length word.now + length value.now + 2 ≤ N }
-        ensures { Adds (report_bytes self.old) (labelled word.now value.now) (length word.now + length value.now + 2) (report_bytes self.new) }
-    {
-        self.add(word);
-        self.add(b"\t");
-        self.add(value);
-        self.add(b"\n");
-    }
-
     fn add_recorded_count(&mut self, count: Option<u64>)
         requires { length (report_bytes self.old) + 27 ≤ N }
         ensures { Adds (report_bytes self.old) (shown_record (codes "count") decimal count) 27 (report_bytes self.new) }
@@ -74,9 +53,9 @@ impl<const N: usize> Report<N> {
         self.add_word(word, if needed { b"yes" } else { b"no" });
     }
 
-    fn add_progress(&mut self, progress: &Progress)
-        requires { length (report_bytes self.old) + 158 ≤ N }
-        ensures { Adds (report_bytes self.old) (shown_progress (progress_of progress.now)) 158 (report_bytes self.new) }
+    pub(crate) fn add_progress(&mut self, progress: &Progress)
+        requires { length (report_bytes self.old) + progress_room ≤ N }
+        ensures { Adds (report_bytes self.old) (shown_progress (progress_of progress.now)) progress_room (report_bytes self.new) }
     {
         self.add_bytes(b"digest", &progress.digest.bytes);
         self.add_recorded_count(progress.count);
@@ -86,9 +65,9 @@ impl<const N: usize> Report<N> {
         self.add_need(b"password", progress.password);
     }
 
-    fn add_lines(&mut self, answer: &Result<usize, Fault>)
-        requires { length (report_bytes self.old) + 129 ≤ N }
-        ensures { Adds (report_bytes self.old) (shown_lines answer.now) 129 (report_bytes self.new) }
+    pub(crate) fn add_lines(&mut self, answer: &Result<usize, Fault>)
+        requires { length (report_bytes self.old) + lines_room ≤ N }
+        ensures { Adds (report_bytes self.old) (shown_lines answer.now) lines_room (report_bytes self.new) }
     {
         match answer {
             Ok(lines) => self.add_count(b"lines", *lines),
