@@ -8,7 +8,8 @@ use crate::report::Report;
 use interfaces::code::Code;
 use interfaces::digest::Digest;
 use interfaces::fault::Fault;
-use text::write::{hex_digit, put_decimal, put_pairs};
+use text::append::{append_decimal, append_pairs};
+use text::write::hex_digit;
 use tree::summary::Summary;
 
 impl<const N: usize> Report<N> {
@@ -23,14 +24,14 @@ impl<const N: usize> Report<N> {
         requires { length (report_bytes self.old) + 20 ≤ N }
         ensures { Adds (report_bytes self.old) (decimal n) 20 (report_bytes self.new) }
     {
-        put_decimal(&mut self.text, n).unwrap();
+        append_decimal(&mut self.text, n).unwrap();
     }
 
     pub(crate) fn add_pairs(&mut self, bytes: &[u8])
         requires { length (report_bytes self.old) + 2 * length bytes.now ≤ N }
         ensures { Adds (report_bytes self.old) (pairs bytes.now) (2 * length bytes.now) (report_bytes self.new) }
     {
-        put_pairs(&mut self.text, bytes).unwrap();
+        append_pairs(&mut self.text, bytes).unwrap();
     }
 
     // A word, a tab, a number and a line feed.

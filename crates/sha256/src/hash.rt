@@ -41,7 +41,10 @@ fn hash_value(text: &[u8]) -> State
     requires { length text.now < 2 ^ 61 }
     ensures { result ≡ absorb compress 64 (length (pad text.now) / 64) (pad text.now) H0 }
 {
-    let (h, rest) = take_blocks::<Compression, BLOCK>(initial(), text);
+    let (h, _) = take_blocks::<Compression, BLOCK>(initial(), text);
+    // Not the rest that the call answers: where that lies the compiler cannot tell, and it would be
+    // copied by `memmove`, which firmware need not have.
+    let (_, rest) = text.as_chunks::<BLOCK>();
     let mut tail: ArrayVec<u8, TAIL> = ArrayVec::new(0);
     tail.extend(rest).unwrap();
     pad(&mut tail, text.len());

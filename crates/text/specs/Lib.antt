@@ -1,3 +1,4 @@
 pub mod Cut
 pub mod Numbers
 pub mod Pairs
+pub mod Writing

@@ -1,10 +1,21 @@
-// Digits put behind other bytes; what does not fit is refused, and nothing is put.
+// Bytes written into a buffer from a place on; what does not fit is refused, and nothing is written.
 ghost use Rattle.std.specs.Prelude.{◌≡◌, ◌%◌, decimal};
-ghost use Rattle.arrays.specs.Items.{items, Puts};
 ghost use Rattle.text.specs.Pairs.{hex_digit, pairs};
+ghost use Rattle.text.specs.Writing.{Wrote};
 
-use arrays::array_vec::{ArrayVec, Full};
 use itoa::Buffer;
+
+// Writes bytes, and answers where they end.
+pub fn put(out: &mut [u8], at: usize, more: &[u8]) -> Option<usize>
+    ensures { Wrote out.old at more.now result out.new }
+{
+    let end = at.checked_add(more.len())?;
+    if end > out.len() {
+        return None;
+    }
+    out[at..end].copy_from_slice(more);
+    Some(end)
+}
 
 // The digit of the low four bits.
 pub fn hex_digit(v: u8) -> u8
@@ -18,21 +29,22 @@ pub fn hex_digit(v: u8) -> u8
     }
 }
 
-pub fn put_pairs<const N: usize>(out: &mut ArrayVec<u8, N>, bytes: &[u8]) -> Result<(), Full>
-    ensures { Puts N (items out.old) (pairs bytes.now) result (items out.new) }
+pub fn put_pairs(out: &mut [u8], at: usize, bytes: &[u8]) -> Option<usize>
+    ensures { Wrote out.old at (pairs bytes.now) result out.new }
 {
-    if bytes.len() > (N - out.len()) / 2 {
-        return Err(Full);
+    if at > out.len() || bytes.len() > (out.len() - at) / 2 {
+        return None;
     }
-    for b in bytes {
-        out.extend(&[hex_digit(*b / 16), hex_digit(*b)])?;
+    for (i, b) in bytes.iter().enumerate() {
+        out[at + 2 * i] = hex_digit(*b / 16);
+        out[at + 2 * i + 1] = hex_digit(*b);
     }
-    Ok(())
+    Some(at + 2 * bytes.len())
 }
 
-pub fn put_decimal<const N: usize>(out: &mut ArrayVec<u8, N>, n: usize) -> Result<(), Full>
-    ensures { Puts N (items out.old) (decimal n) result (items out.new) }
+pub fn put_decimal(out: &mut [u8], at: usize, n: usize) -> Option<usize>
+    ensures { Wrote out.old at (decimal n) result out.new }
 {
     let mut digits = Buffer::new();
-    out.extend(digits.format(n).as_bytes())
+    put(out, at, digits.format(n).as_bytes())
 }

@@ -1,29 +1,24 @@
-use Rattle.std.proofs.Common.{◌≡◌, ◌/◌, ◌%◌, ◌∷◌, [], ◌++◌, length, get_or, take, refl, ap, ◌∙◌, arith}
-use Rattle.std.proofs.lemmas.List.{take_all}
-use Rattle.arrays.specs.Items.{items}
-use Rattle.text.specs.Pairs.{hex_digit, pairs}
-use Rattle.text.proofs.Writes.{pairs-length, pairs_more, pairs_so_far}
+use Rattle.std.proofs.Common.{◌≡◌, ◌/◌, ◌%◌, get_or, refl, ap, ◌∙◌, arith}
+use Rattle.text.specs.Pairs.{hex_digit}
+use Rattle.text.proofs.Spelling.{spelled_more, spelled_all}
+use Rattle.text.proofs.Writes.{pairs-length}
 use Rattle.text.proofs.write.put_pairs.Goals as goal
+use Rattle.text.proofs.write.put_pairs.Goals.{then-at-out-via-then-at-out, then-at-out-via-else-at-out+then-bytes-out}
 
-pub returns-then-bytes-len : goal.returns-then-bytes-len
-returns-then-bytes-len g c = record { over = omega (arith, pairs-length c.args.bytes.now, c.len.ensures.value, c.len.ensures.within); same = refl }
+pub returns-then-at-out : goal.returns-then-at-out
+returns-then-at-out c =
+    let long = pairs-length c.args.bytes.now in
+    elim c.then-at-out.branch [
+      | then-at-out-via-then-at-out w ↦ record { over = omega (arith, w.if-at-out.true); same = refl }
+      | then-at-out-via-else-at-out+then-bytes-out w ↦ record { over = omega (arith, w.if-at-out.false, w.if-bytes-out.true); same = refl }
+    ]
 
-pub returns-in_err-extend : goal.returns-in_err-extend
-returns-in_err-extend g c =
-    let so-far = ap length c.loop-b.invariant ∙ pairs_so_far (items c.args.out.now) c.args.bytes.now c.loop-b.b-index c.loop-b.auto.b-index-end in
-    absurd (omega (arith, so-far, c.in_err-extend.ensures.over, c.len.ensures.value, c.len.ensures.within))
-
-pub loop-b-preserved : goal.loop-b-preserved
-loop-b-preserved g c =
-    let b = get_or c.args.bytes.now c.loop-b.b-index 0 in
-    let high : b / 16 % 16 ≡ b / 16 = omega (arith, (c.type_inv.bytes c.loop-b.b-index).fits) in
-    let first = c.hex_digit.ensures ∙ ap hex_digit high in
-    c.in_ok-extend.ensures.joined ∙ (λ i. c.loop-b.invariant i ++ first i ∷ c.hex_digit-in-loop-b.ensures i ∷ []) ∙ pairs_more (items c.args.out.now) c.args.bytes.now c.loop-b.b-index c.loop-b-test.true
+pub loop-i-preserved : goal.loop-i-preserved
+loop-i-preserved c =
+    let b = get_or c.args.bytes.now c.loop-i.i 0 in
+    let high : b / 16 % 16 ≡ b / 16 = omega (arith, (c.type_inv.bytes c.loop-i.i).fits) in
+    rw (c.hex_digit.ensures ∙ ap hex_digit high, c.hex_digit-in-loop-i.ensures)
+    (spelled_more c.args.out.now c.args.at c.args.bytes.now c.loop-i.i _ c.loop-i.out c.loop-i-test.true refl (omega arith) c.loop-i.invariant)
 
 pub returns : goal.returns
-returns g c =
-    let all : take c.loop-b.b-index c.args.bytes.now ≡ c.args.bytes.now = take_all _ _ c.loop-b-test.false in
-    record {
-      within = omega (arith, pairs-length c.args.bytes.now, c.len.ensures.value, c.len.ensures.within, c.if-bytes-len.false);
-      joined = c.loop-b.invariant ∙ ap (λ l. items c.args.out.now ++ pairs l) all;
-    }
+returns c = spelled_all c.args.out.now c.args.at c.args.bytes.now c.loop-i.i _ c.loop-i.out c.loop-i-test.false (omega arith) refl (omega arith) c.loop-i.invariant

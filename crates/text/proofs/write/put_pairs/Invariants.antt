@@ -1,7 +1,6 @@
-use Rattle.std.proofs.Common.{◌≡◌, ◌++◌, take}
-use Rattle.arrays.specs.Items.{items}
-use Rattle.text.specs.Pairs.{pairs}
+use Rattle.std.proofs.Common.{◌+◌, ◌*◌, length}
+use Rattle.text.proofs.Spelling.{Spelled}
 use Rattle.text.proofs.write.put_pairs.Given as goal
 
-abbrev pub invariant-loop-b : goal.invariant-loop-b
-invariant-loop-b g l = items l.out ≡ items l.fn.out ++ pairs (take l.b-index l.bytes)
+abbrev pub invariant-loop-i : goal.invariant-loop-i
+invariant-loop-i l = Spelled l.initial.out l.at l.bytes l.i (l.at + 2 * length l.bytes) l.out

@@ -12,5 +12,5 @@ pub returns : goal.returns
 returns g c =
     let before = report_bytes c.args.self.now in
     let short = length-decimal-le 20 c.args.n (omega arith) (omega (arith, c.ranges.n.fits)) c.ranges.n.fits in
-    let joined = put_fits g.row.N before (decimal c.args.n) _ _ (omega arith) c.put_decimal.ensures in
+    let joined = put_fits g.row.N before (decimal c.args.n) _ _ (omega arith) c.append_decimal.ensures in
     record { joined = joined; short = omega (arith, ap length joined ∙ length-append before (decimal c.args.n)) }

@@ -13,5 +13,5 @@ pub returns : goal.returns
 returns g c =
     let before = report_bytes c.args.self.now in
     let long = pairs-length c.args.bytes.now in
-    let joined = put_fits g.row.N before (pairs c.args.bytes.now) _ _ (omega arith) c.put_pairs.ensures in
+    let joined = put_fits g.row.N before (pairs c.args.bytes.now) _ _ (omega arith) c.append_pairs.ensures in
     record { joined = joined; short = omega (arith, ap length joined ∙ length-append before (pairs c.args.bytes.now)) }
