@@ -1,8 +1,10 @@
 -- What the bytes of a block in range are, one by one.
-use Rattle.std.proofs.Common.{◌≡◌, ℕ, ◌+◌, ◌<◌, ◌≤◌, Bool, true, leb, List, ap, ◌∙◌, inl, inr, arith}
-use Rattle.std.proofs.lemmas.Bool.{and_parts, both_ways, cases_Bool, leb-true}
+use Rattle.std.proofs.Common.{◌≡◌, ℕ, ◌+◌, ◌<◌, ◌≤◌, Bool, true, false, leb, List, get_or, Decides, ap, ◌∙◌, inl, inr, arith}
+use Rattle.std.proofs.lemmas.Bool.{and_parts, both_ways, cases_Bool, leb-true, le-leb}
+use Rattle.std.proofs.lemmas.List.Elements.{All-from_get_or}
 use Rattle.std.proofs.lemmas.List.Folds.{list_all_at}
 use Rattle.std.proofs.lemmas.List.FromFn.{get_or-range_with_len, length-range_with_len}
+use Rattle.std.proofs.lemmas.List.Sums.{list_all-from_AllPass}
 use Rattle.std.specs.List.{range_with_len}
 use Rattle.interfaces.specs.States.{last_locality, value_limit}
 use Rattle.block.specs.Layout.{entry_count, in_range, length_in, lengths_fit, locality_in, number_in, presence_in}
@@ -15,6 +17,21 @@ lengths_each bs n k e h = elim (cases_Bool (fits k)) [ inl t ↦ leb-true _ _ t 
 
     at : 0 + k ≡ k
     at = omega arith
+
+lengths_decide : (bs : List ℕ) (n : ℕ) → Decides (lengths_fit bs n) ((k : ℕ) → k < n → length_in bs k ≤ value_limit)
+lengths_decide bs n = (λ e k h. lengths_each bs n k e h, λ each. list_all-from_AllPass fits (range_with_len 0 n) (All-from_get_or (λ i. fits i ≡ true) (range_with_len 0 n) 0 (λ i h. here each i (omega (arith, length-range_with_len 0 n)))))
+  where
+    fits : ℕ → Bool
+    fits i = leb (length_in bs i) value_limit
+
+    here : ((k : ℕ) → k < n → length_in bs k ≤ value_limit) → (i : ℕ) → i < n → fits (get_or (range_with_len 0 n) i 0) ≡ true
+    here each i h = let at : 0 + i ≡ i = omega arith in ap fits (get_or-range_with_len 0 n i 0 h ∙ at) ∙ le-leb _ _ (each i h)
+
+pub lengths_fit_lem : (bs : List ℕ) (n : ℕ) → ((k : ℕ) → k < n → length_in bs k ≤ value_limit) → lengths_fit bs n ≡ true
+lengths_fit_lem bs n h = (lengths_decide bs n).1 h
+
+pub lengths_miss : (bs : List ℕ) (n i : ℕ) → i < n → value_limit < length_in bs i → lengths_fit bs n ≡ false
+lengths_miss bs n i l h = elim (cases_Bool (lengths_fit bs n)) [ inl e ↦ absurd (omega (arith, (lengths_decide bs n).0 e i l)) | inr e ↦ e ]
 
 pub record Ranges (bs : List ℕ) : Type 0 where
   pub locality : locality_in bs ≤ last_locality

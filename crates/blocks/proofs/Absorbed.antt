@@ -1,9 +1,24 @@
 -- The state after some blocks, and after more.
-use Rattle.std.proofs.Common.{◌≡◌, ℕ, zero, suc, ◌+◌, ◌*◌, ◌≤◌, List, ◌++◌, length, take, drop, refl, ◌∙◌, zero-mul, suc-mul, zero-add, arith}
+use Rattle.std.proofs.Common.{◌≡◌, ℕ, zero, suc, ◌+◌, ◌*◌, ◌≤◌, List, ◌++◌, length, take, drop, refl, ◌∙◌, mul-zero, zero-mul, mul-suc, suc-mul, zero-add, arith}
 use Rattle.std.proofs.lemmas.List.{drop-drop, length-drop, take_all, take-append-le, drop-append-le}
 use Rattle.blocks.specs.Blocks.{absorb}
 
+-- One block on, in a message at hand.
+past : (size i : ℕ) (m : List ℕ) → drop (size * i) (drop size m) ≡ drop (size * suc i) m
+past size i m =
+    let on : size + size * i ≡ size * suc i = omega (arith, mul-suc size i) in
+    drop-drop (size * i) size m ∙ rw on
+
 module _ {S : Type 0} (step : S → List ℕ → S) (size : ℕ) where
+  pub absorb-none : (m : List ℕ) (s : S) → absorb step size 0 m s ≡ s
+  unfolding absorb
+  absorb-none m s = refl
+
+  pub absorb-more : (i : ℕ) (m : List ℕ) (s : S) → absorb step size (suc i) m s ≡ step (absorb step size i m s) (take size (drop (size * i) m))
+  unfolding absorb
+  absorb-more zero m s = rw (mul-zero size)
+  absorb-more (suc i) m s = absorb-more i (drop size m) (step s (take size m)) ∙ rw (past size i m)
+
   pub absorb_one : (block : List ℕ) (s : S) → length block ≡ size → absorb step size 1 block s ≡ step s block
   unfolding absorb
   absorb_one block s whole = rw (take_all size block (omega arith))

@@ -2,7 +2,7 @@
 use Rattle.std.proofs.Common.{◌≡◌, ℕ, ◌+◌, ◌≤◌, true, false, ◌&&◌, List, [], ◌∷◌, ◌++◌, length, is_some, Some, None, Ok, Err, codes, Option, Result, sym, refl, ap, ◌∙◌, inl, inr, arith}
 use Rattle.std.specs.Option.{option_map}
 use Rattle.std.specs.List.{list_all}
-use Rattle.std.proofs.lemmas.List.{append_assoc, length-append}
+use Rattle.std.proofs.lemmas.List.{append_assoc, append-nil, length-append}
 use Rattle.std.proofs.lemmas.List.Folds.{list_all-append}
 use Rattle.std.proofs.lemmas.Bool.{and_left, and_right, and_from, cond-false, cond-true, eq-eqb, ne_eqb}
 use Rattle.std.specs.Str.{bytes_eq}
@@ -62,6 +62,18 @@ sized_more front d h l = list_all-append _ front _ ∙ and_from _ _ h (and_from 
 pub record Before (all front rest : List (List ℕ)) : Type 0 where
   pub sized : all_sized digest_length front ≡ true
   pub joined : unpaired_all all ≡ option_map (λ ds. front ++ ds) (unpaired_all rest)
+
+-- none of them are read yet
+pub before-none : (all : List (List ℕ)) → Before all [] all
+before-none all = record { sized = refl; joined = go (unpaired_all all) }
+  where
+    go : (o : Option (List (List ℕ))) → o ≡ option_map (λ ds. [] ++ ds) o
+    go None = refl
+    go (Some ds) = refl
+
+-- all of them are
+pub before_all : (all front : List (List ℕ)) → Before all front [] → unpaired_all all ≡ Some front
+before_all all front b = b.joined ∙ ap Some (append-nil front)
 
 -- the next field
 module _ (all front rest fs : List (List ℕ)) (f : List ℕ) (b : Before all front rest) (next : rest ≡ f ∷ fs) where

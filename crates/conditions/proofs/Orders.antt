@@ -1,20 +1,25 @@
 -- Laws of the numbers that byte strings stand for.
-use Rattle.std.proofs.Common.{◌≡◌, ℕ, suc, ◌+◌, ◌-◌, ◌*◌, ◌^◌, ◌<◌, Bool, true, false, cond, not, ltb, List, [], ◌∷◌, length, get_or, Some, Option, ℤ, pos, negsuc, sym, refl, ap, ◌∙◌, subst, ⊎_elim, mul-le-mul_right, mul_assoc, one-mul, arith, w8, Fits}
+use Rattle.std.proofs.Common.{◌≡◌, ℕ, suc, ◌+◌, ◌-◌, ◌*◌, ◌^◌, ◌<◌, Bool, true, false, cond, not, ltb, List, [], ◌∷◌, ◌++◌, length, get_or, take, drop, Some, Option, ℤ, pos, negsuc, sym, refl, ap, ◌∙◌, subst, ⊎_elim, mul-le-mul_right, mul_assoc, one-mul, arith, w8, Fits}
 use native.Mathlib.Nat.{pow-succ'}
 use lib.Signed.{lt_z}
 use mathlib.Core.Bool.{beq}
-use Rattle.std.proofs.ByRecursion.{All-from_get_or}
+use Rattle.std.proofs.ByRecursion.{All-drop, All-from_get_or}
 use Rattle.std.specs.Cmp.Lexicographic.{slice_partial_cmp}
 use Rattle.std.specs.Ordering.{nat_cmp, partial_ordering_then, is_some_and, is_lt, is_le, is_gt, is_ge}
 use Rattle.std.specs.declared.cmp.Ordering.{Ordering}
 use Rattle.std.specs.declared.cmp.Ordering.TheVariants.{Less, Equal, Greater}
+use Rattle.std.proofs.lemmas.List.{drop_more, length-drop, take-append-drop}
 use Rattle.std.proofs.lemmas.Bool.{cond-true, cond-false, cases_lt, lt-ltb, le-ltb, eq-eqb, ne_eqb}
 use Rattle.std.proofs.lemmas.Bool.Decides.{nat_tests}
 use Rattle.interfaces.specs.Checks.{Bytes}
 use Rattle.conditions.specs.Comparing.{unsigned_from, unsigned, negative, signed}
 
-fit_bytes : (bs : List ℕ) → ((i : ℕ) → Fits w8 (get_or bs i 0)) → Bytes bs
+pub fit_bytes : (bs : List ℕ) → ((i : ℕ) → Fits w8 (get_or bs i 0)) → Bytes bs
 fit_bytes bs h = All-from_get_or (λ b. b < 256) bs 0 (λ i _. omega (arith, (h i).fits))
+
+from_append : (n : ℕ) (xs ys : List ℕ) → unsigned_from n (xs ++ ys) ≡ unsigned_from (unsigned_from n xs) ys
+from_append n [] ys = refl
+from_append n (x ∷ xs) ys = from_append (n * 256 + x) xs ys
 
 -- the digits in front decide
 less_from : (m n : ℕ) (xs ys : List ℕ) → length xs ≡ length ys → Bytes xs → Bytes ys → m < n → unsigned_from m xs < unsigned_from n ys
@@ -22,6 +27,16 @@ less_from m n [] [] e p q h = h
 less_from m n [] (y ∷ ys) e p q h = absurd (omega arith)
 less_from m n (x ∷ xs) [] e p q h = absurd (omega arith)
 less_from m n (x ∷ xs) (y ∷ ys) e p q h = less_from (m * 256 + x) (n * 256 + y) xs ys (omega arith) p.1 q.1 (omega (arith, p.0, q.0))
+
+split_at : (bs : List ℕ) (i : ℕ) → i < length bs → unsigned bs ≡ unsigned_from (unsigned (take i bs) * 256 + get_or bs i 0) (drop (i + 1) bs)
+split_at bs i h = ap unsigned (sym (take-append-drop i bs)) ∙ from_append 0 (take i bs) (drop i bs) ∙ ap (unsigned_from (unsigned (take i bs))) (drop_more bs i 0 h)
+
+-- the first byte that differs decides
+pub first_decides : (a b : List ℕ) (i : ℕ) → length a ≡ length b → Bytes a → Bytes b → i < length a → take i a ≡ take i b → get_or a i 0 < get_or b i 0 → unsigned a < unsigned b
+first_decides a b i e p q h same less =
+    let front = ap unsigned same in
+    let rest = less_from (unsigned (take i a) * 256 + get_or a i 0) (unsigned (take i b) * 256 + get_or b i 0) (drop (i + 1) a) (drop (i + 1) b) (omega (arith, length-drop (i + 1) a, length-drop (i + 1) b)) (All-drop (λ x. x < 256) (i + 1) a p) (All-drop (λ x. x < 256) (i + 1) b q) (omega arith) in
+    omega (arith, split_at a i h, split_at b i (omega arith), rest)
 
 nat_cmp-less : (m n : ℕ) → m < n → nat_cmp m n ≡ Less
 nat_cmp-less m n h = cond-true _ _ _ (lt-ltb m n h)
@@ -40,7 +55,7 @@ in_order a b = slice_partial_cmp (λ x y. Some (nat_cmp x y)) a b
 abbrev InOrder : ℕ → List ℕ → List ℕ → Type 0
 InOrder n xs ys = in_order xs ys ≡ Some (nat_cmp (unsigned_from n xs) (unsigned_from n ys))
 
--- the first byte that differs decides
+-- and so it does in that order
 order_from : (n : ℕ) (xs ys : List ℕ) → length xs ≡ length ys → Bytes xs → Bytes ys → InOrder n xs ys
 order_from n [] [] e p q = ap Some (sym (nat_cmp-same n n refl))
 order_from n [] (y ∷ ys) e p q = absurd (omega arith)
@@ -93,9 +108,9 @@ pub record Apart (s t : Bool) (x y : ℤ) : Type 0 where
   pub not_less : t ≡ not (lt_z x y)
   pub not_greater : s ≡ not (lt_z y x)
 
-record Alike (m n : ℕ) (x y : ℤ) : Type 0 where
-  less : ltb m n ≡ lt_z x y
-  greater : ltb n m ≡ lt_z y x
+pub record Alike (m n : ℕ) (x y : ℤ) : Type 0 where
+  pub less : ltb m n ≡ lt_z x y
+  pub greater : ltb n m ≡ lt_z y x
 
 module _ (a b : List ℕ) where
   apart : (s t : Bool) → not (beq s t) ≡ true → Apart s t (by_sign s a) (by_sign t b)
@@ -117,6 +132,10 @@ module _ (a b : List ℕ) where
   -- where the signs differ, the negative one is less
   pub signs_differ : (s t : Bool) → s ≡ negative a → t ≡ negative b → not (beq s t) ≡ true → Apart s t (signed a) (signed b)
   signs_differ s t f g d = subst (λ x. Apart s t x (signed b)) (ap (λ n. by_sign n a) f) (subst (λ y. Apart s t (by_sign s a) y) (ap (λ n. by_sign n b) g) (apart s t d))
+
+  -- where they do not, two's complement orders as unsigned numbers do
+  pub signs_same : length a ≡ length b → Bytes a → Bytes b → (s t : Bool) → s ≡ negative a → t ≡ negative b → not (beq s t) ≡ false → Alike (unsigned a) (unsigned b) (signed a) (signed b)
+  signs_same e p q s t f g d = subst (λ x. Alike (unsigned a) (unsigned b) x (signed b)) (ap (λ n. by_sign n a) f) (subst (λ y. Alike (unsigned a) (unsigned b) (by_sign s a) y) (ap (λ n. by_sign n b) g) (alike e p q s t d))
 
   -- bytes of one length order as their unsigned numbers do
   module _ (e : length a ≡ length b) (p : (i : ℕ) → Fits w8 (get_or a i 0)) (q : (i : ℕ) → Fits w8 (get_or b i 0)) where

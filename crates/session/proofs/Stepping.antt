@@ -17,7 +17,7 @@ use Rattle.session.specs.Events.{Called}
 use Rattle.session.specs.Steps.{Progress, common_set, record_flaw, refusal, state_flaw, stepped, stepped_by, after}
 
 module _ (checked : Bool) (h : Hashing) (s : Snapshot) (p : Progress) (c : Call) where
-  called_so : (r : Result (Unit {0}) Refusal) (later : Progress) → r ≡ refused_by (refusal checked h s p c) tt → later ≡ stepped checked h s p c → Called checked h s p c r later
+  pub called_so : (r : Result (Unit {0}) Refusal) (later : Progress) → r ≡ refused_by (refusal checked h s p c) tt → later ≡ stepped checked h s p c → Called checked h s p c r later
   called_so r later a b = record { answer = a; after = b; follows = λ es e. ap (λ x. stepped checked h s x c) e ∙ sym b }
 
   fields_refuse : (code : Code) → h.size ≡ digest_length → call_flaw digest_length c ≡ Some code → refusal checked h s p c ≡ Some (call_refusal code)
@@ -38,7 +38,7 @@ module _ (checked : Bool) (h : Hashing) (s : Snapshot) (p : Progress) (c : Call)
       go (Some k) t = absurd (let z : ◌≡◌ {A = ℕ} 0 1 = cc in omega arith)
 
   -- a call whose fields are refused changes nothing
-  called_refused : (code : Code) → h.size ≡ digest_length → ◌≡◌ {A = Result Call Code} (Err code) (judged_call c) → Called checked h s p c (Err (call_refusal code)) p
+  pub called_refused : (code : Code) → h.size ≡ digest_length → ◌≡◌ {A = Result Call Code} (Err code) (judged_call c) → Called checked h s p c (Err (call_refusal code)) p
   called_refused code long e =
       let no = fields_refuse code long (judged_refuses code e) in
       called_so (Err (call_refusal code)) p (sym (ap (λ f. refused_by f tt) no)) (sym (ap (λ f. stepped_by f (after checked h s p c) p) no))

@@ -33,7 +33,7 @@ rounds-append [] (w ∷ w1) k2 w2 v e = absurd (omega arith)
 rounds-append (k ∷ k1) [] k2 w2 v e = absurd (omega arith)
 rounds-append (k ∷ k1) (w ∷ w1) k2 w2 v e = rounds-append k1 w1 k2 w2 (round v k w) (omega arith)
 
-rounds-more : (ks ws v : List ℕ) (n : ℕ) → n ≤ length ks → n ≤ length ws → rounds (take (n + 4) ks) (take (n + 4) ws) v ≡ rounds (take 4 (drop n ks)) (take 4 (drop n ws)) (rounds (take n ks) (take n ws) v)
+pub rounds-more : (ks ws v : List ℕ) (n : ℕ) → n ≤ length ks → n ≤ length ws → rounds (take (n + 4) ks) (take (n + 4) ws) v ≡ rounds (take 4 (drop n ks)) (take 4 (drop n ws)) (rounds (take n ks) (take n ws) v)
 rounds-more ks ws v n in-ks in-ws =
     let same : length (take n ks) ≡ length (take n ws) = length-take-le n ks in-ks ∙ sym (length-take-le n ws in-ws) in
     rw (take-add n 4 ks, take-add n 4 ws) (rounds-append (take n ks) (take n ws) (take 4 (drop n ks)) (take 4 (drop n ws)) v same)

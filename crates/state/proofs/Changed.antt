@@ -1,21 +1,26 @@
 -- Laws of changes: the string that is hashed to extend a PCR, and a state with a value put.
-use Rattle.std.proofs.Common.{◌≡◌, ℕ, ◌<◌, true, List, [], length, is_some, Some, None, Ok, Err, Decides, Option, sym, refl, subst, arith}
+use Rattle.std.proofs.Common.{◌≡◌, ℕ, ◌<◌, ◌≤◌, true, false, cond, ◌&&◌, ◌||◌, eqb, ltb, leb, List, [], length, is_some, Some, None, Ok, Err, Decides, Option, sym, refl, ap, subst, arith}
 use Rattle.std.specs.List.{ContainsAt}
 use Rattle.std.specs.Str.{bytes_eq}
 use Rattle.std.proofs.lemmas.Slice.Eq.{bytes_eq-Decides}
 use Rattle.std.proofs.lemmas.List.{length-map}
-use Rattle.std.proofs.lemmas.Bool.{cond-true, eq-eqb, lt-ltb}
+use Rattle.std.proofs.lemmas.Bool.{and_from, and_left, and_right, cond-true, eq-eqb, ne_eqb, le-leb, lt-leb, lt-ltb}
 use Rattle.interfaces.specs.declared.code.Code.{Code}
 use Rattle.interfaces.specs.declared.code.Code.TheVariants.{Value, Size, Memory}
-use Rattle.interfaces.specs.Checks.{first, refused_with, settled}
-use Rattle.interfaces.specs.States.{Snapshot, pcr_count, pcr_length}
-use Rattle.tables.specs.Tables.{value_under, put_under, distinct}
+use Rattle.interfaces.specs.Checks.{first, refused_with, settled, unless}
+use Rattle.interfaces.specs.Hashing.{hash_written}
+use Rattle.interfaces.specs.States.{Snapshot, pcr_count, pcr_length, name_length, value_limit}
+use Rattle.sha256.specs.Sha256.{sha256, sha256_hashing}
+use Rattle.tables.specs.Tables.{value_under, put_under, distinct, full_flaw}
 use Rattle.tables.proofs.Laws.{distinct_put, keys, held_keys, keys_once, value_put}
 use Rattle.state.specs.declared.entry.Entry.{Entry}
 use Rattle.state.specs.declared.values.Values.{Values}
-use Rattle.state.specs.Entries.{value_bytes}
-use Rattle.state.specs.Changes.{last_count, extend_flaw, with_value, Holding}
+use Rattle.state.specs.Entries.{value_bytes, value_count}
+use Rattle.state.specs.Changes.{last_count, extend_flaw, put_flaw, with_value, Holding}
 use Rattle.state.specs.Views.{held}
+
+pub hashed : (t : List ℕ) → length t ≤ 65536 → hash_written sha256_hashing t 32 ≡ sha256 t
+hashed t h = cond-true _ _ _ (and_from _ _ (le-leb _ _ h) refl)
 
 pub extend_passes : (s : Snapshot) (index : ℕ) (value : List ℕ) → length value ≡ pcr_length → index < pcr_count → s.count < last_count → extend_flaw s index value ≡ None
 extend_passes s index value a b c = λ i. first (cond-true _ None (Some Size) (eq-eqb _ _ a) i) (first (cond-true _ None (Some Value) (lt-ltb _ _ b) i) (cond-true _ None (Some Memory) (lt-ltb _ _ c) i))
@@ -44,6 +49,19 @@ put_held s es name value = λ i. record { pcrs = s.pcrs; count = s.count; stored
 pub put_settled : (s : Snapshot) (es : List (List ℕ × List ℕ)) (name value : List ℕ) (flaw : Option Code) → with_held s (settled flaw (put_under bytes_eq es name value) es) ≡ settled flaw (with_value (with_held s es) name value) (with_held s es)
 put_settled s es name value None = put_held s es name value
 put_settled s es name value (Some c) = refl
+
+-- a Name and a value of their lengths are refused only for want of room
+pub lengths_pass : (s : Snapshot) (es : List (List ℕ × List ℕ)) (name value : List ℕ) → length name ≡ name_length → length value ≤ value_limit → put_flaw (with_held s es) (length es) name value ≡ full_flaw bytes_eq value_count es name
+lengths_pass s es name value a b = ap (λ f. first f (full_flaw bytes_eq value_count es name)) (cond-true _ None (Some Size) (and_from _ _ (eq-eqb _ _ a) (le-leb _ _ b)))
+
+lengths_refused : (s : Snapshot) (n : ℕ) (name value : List ℕ) → (eqb (length name) name_length && leb (length value) value_limit) ≡ false → put_flaw s n name value ≡ Some Size
+lengths_refused s n name value f = ap (λ b. first (cond b None (Some Size)) (unless (is_some (s.stored name) || ltb n value_count) Memory)) f
+
+pub name_refused : (s : Snapshot) (n : ℕ) (name value : List ℕ) → (length name ≡ name_length → ⊥) → put_flaw s n name value ≡ Some Size
+name_refused s n name value a = lengths_refused s n name value (and_left _ _ (ne_eqb _ _ a))
+
+pub value_refused : (s : Snapshot) (n : ℕ) (name value : List ℕ) → value_limit < length value → put_flaw s n name value ≡ Some Size
+value_refused s n name value a = lengths_refused s n name value (and_right _ _ (lt-leb _ _ a))
 
 -- what the answer of a check tells of its flaw
 pub passed : {A : Type 0} (flaw : Option Code) (x a : A) → Ok x ≡ refused_with flaw a → (flaw ≡ None) × (x ≡ a)

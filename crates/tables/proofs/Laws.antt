@@ -1,5 +1,5 @@
 -- Laws of tables under keys, for every kind of key and any test that decides whether two are equal.
-use Rattle.std.proofs.Common.{◌≡◌, ℕ, zero, suc, ◌<◌, Bool, true, false, cond, not, List, [], ◌∷◌, map, length, get_or, is_some, Some, None, Decides, Option, sym, refl, ap, ◌∙◌, subst, arith}
+use Rattle.std.proofs.Common.{◌≡◌, ℕ, zero, suc, ◌+◌, ◌<◌, Bool, true, false, cond, not, List, [], ◌∷◌, ◌++◌, map, length, get_or, take, set, is_some, Some, None, Decides, Option, sym, refl, ap, ◌∙◌, subst, arith}
 use Rattle.std.specs.Option.{option_map}
 use Rattle.std.specs.List.{ContainsAt}
 use Rattle.std.proofs.lemmas.List.{get_or-map, length-map}
@@ -34,6 +34,15 @@ module _ {K V : Type 0} (same : K → K → Bool) where
       go true f h = f
       go false f h = located_later e es key (place_under same es key) f h
 
+  pub absent_place : (es : List (K × V)) (key : K) → Absent same es key → place_under same es key ≡ None
+  absent_place [] key a = refl
+  absent_place (e ∷ es) key a = cond-false _ _ _ a.0 ∙ ap (option_map suc) (absent_place es key a.1)
+
+  pub first_place : (es : List (K × V)) (key : K) (p : ℕ) → FirstAt same es key p → place_under same es key ≡ Some p
+  first_place [] key p h = absurd h
+  first_place (e ∷ es) key zero h = cond-true _ _ _ h
+  first_place (e ∷ es) key (suc p) h = cond-false _ _ _ h.0 ∙ ap (option_map suc) (first_place es key p h.1)
+
   pub absent_value : (es : List (K × V)) (key : K) → Absent same es key → value_under same es key ≡ None
   absent_value [] key a = refl
   absent_value (e ∷ es) key a = cond-false _ _ _ a.0 ∙ absent_value es key a.1
@@ -52,6 +61,29 @@ module _ {K V : Type 0} (same : K → K → Bool) where
   first_key [] key p d h = absurd h
   first_key (e ∷ es) key zero d h = h
   first_key (e ∷ es) key (suc p) d h = first_key es key p d h.1
+
+  pub absent_put : (es : List (K × V)) (key : K) (v : V) → Absent same es key → put_under same es key v ≡ es ++ (key, v) ∷ []
+  absent_put [] key v a = refl
+  absent_put (e ∷ es) key v a = cond-false _ _ _ a.0 ∙ ap (λ l. e ∷ l) (absent_put es key v a.1)
+
+  pub first_put : (es : List (K × V)) (key : K) (v : V) (p : ℕ) → FirstAt same es key p → put_under same es key v ≡ set es p (key, v)
+  first_put [] key v p h = absurd h
+  first_put (e ∷ es) key v zero h = cond-true _ _ _ h
+  first_put (e ∷ es) key v (suc p) h = cond-false _ _ _ h.0 ∙ ap (λ l. e ∷ l) (first_put es key v p h.1)
+
+  -- a loop over the places: the key is absent from the first i entries
+  pub absent_more : (es : List (K × V)) (key : K) (i : ℕ) (d : K × V) → i < length es → Absent same (take i es) key → same (get_or es i d).0 key ≡ false → Absent same (take (i + 1) es) key
+  absent_more es key i d l a f = subst (λ n. Absent same (take n es) key) (let n : suc i ≡ i + 1 = omega arith in n) (go es i l a f)
+    where
+      go : (xs : List (K × V)) (n : ℕ) → n < length xs → Absent same (take n xs) key → same (get_or xs n d).0 key ≡ false → Absent same (take (suc n) xs) key
+      go [] n h b t = absurd (omega arith)
+      go (x ∷ xs) zero h b t = (t, tt)
+      go (x ∷ xs) (suc n) h b t = (b.0, go xs n (omega arith) b.1 t)
+
+  pub absent_found : (es : List (K × V)) (key : K) (i : ℕ) (d : K × V) → i < length es → Absent same (take i es) key → same (get_or es i d).0 key ≡ true → FirstAt same es key i
+  absent_found [] key i d l a f = absurd (omega arith)
+  absent_found (e ∷ es) key zero d l a f = f
+  absent_found (e ∷ es) key (suc i) d l a f = (a.0, absent_found es key i d (omega arith) a.1 f)
 
 -- what holds of a value under a key, where it holds of every entry
 pub value_holds : {K V : Type 0} (same : K → K → Bool) (P : K → V → Type 0) (es : List (K × V)) (key : K) (v : V) → ((i : ℕ) (d : K × V) → i < length es → P (get_or es i d).0 (get_or es i d).1) → ((x y : K) → same x y ≡ true → x ≡ y) → value_under same es key ≡ Some v → P key v

@@ -3,7 +3,7 @@ use Rattle.std.proofs.Common.{arith, inl, inr, ◌⊎◌, ◌≤◌, ◌≡◌, 
 use Rattle.std.specs.List.{find, position, position_or_len}
 use Rattle.std.specs.Option.{option_map}
 use Rattle.std.proofs.lemmas.List.{get_or-map, length-map}
-use Rattle.std.proofs.lemmas.Bool.{cases_lt, cond-true, cond-false, le-ltb, lt-ltb}
+use Rattle.std.proofs.lemmas.Bool.{cases_lt, cond-true, cond-false, le-ltb, lt-ltb, or_left, or_right, or_from}
 use Rattle.interfaces.specs.declared.code.Code.TheVariants.{Memory}
 use Rattle.interfaces.specs.Checks.{refused_with, settled, unless}
 use Rattle.tables.specs.Tables.{value_under, place_under, put_under, full_flaw}
@@ -28,6 +28,17 @@ place_held same (e ∷ es) key = go (same e.0 key) (place_under same es key) (pl
     go true o h = refl
     go false None h = h
     go false (Some p) h = h
+
+-- when a table is full
+module _ {K V : Type 0} (same : K → K → Bool) (most : ℕ) (es : List (K × V)) (key : K) where
+  pub full : place_under same es key ≡ None → most ≤ length es → full_flaw same most es key ≡ Some Memory
+  full none h = ap (λ b. cond b None (Some Memory)) (or_from _ _ (ap is_some (place_none same es key none)) (le-ltb (length es) most h))
+
+  pub room_left : length es < most → full_flaw same most es key ≡ None
+  room_left h = ap (λ b. cond b None (Some Memory)) (or_right (is_some (value_under same es key)) _ (lt-ltb (length es) most h))
+
+  pub replaces : (p : ℕ) (d : K × V) → place_under same es key ≡ Some p → full_flaw same most es key ≡ None
+  replaces p d some = ap (λ b. cond b None (Some Memory)) (or_left _ _ (ap is_some (place_some same es key p d some)))
 
 module _ {E K V : Type 0} (entry : E → K × V) (same : K → K → Bool) where
   -- whether two entries stand under one key

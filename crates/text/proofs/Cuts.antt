@@ -9,7 +9,7 @@ use Rattle.std.specs.List.{position, position_or_len}
 use Rattle.text.specs.Cut.{line_feed, tab, attached, lines, fields, further, before, after, first_line}
 
 -- the lines of what follows a line feed
-abbrev later_lines : Option (List ℕ) → List (List ℕ)
+abbrev pub later_lines : Option (List ℕ) → List (List ℕ)
 later_lines None = []
 later_lines (Some s) = lines s
 
@@ -63,7 +63,7 @@ pub record Passed (b : ℕ) (s : List ℕ) (i : ℕ) : Type 0 where
   pub front : before b s ≡ take i s ++ before b (drop i s)
   pub back : after b s ≡ after b (drop i s)
 
-passed_more : (b : ℕ) (s : List ℕ) (i : ℕ) → i < length s → (get_or s i 0 ≡ b → ⊥) → Passed b s i → Passed b s (i + 1)
+pub passed_more : (b : ℕ) (s : List ℕ) (i : ℕ) → i < length s → (get_or s i 0 ≡ b → ⊥) → Passed b s i → Passed b s (i + 1)
 passed_more b s i within other p =
     let rest = drop_more s i 0 within in
     let x = get_or s i 0 in
@@ -73,14 +73,14 @@ passed_more b s i within other p =
       back = p.back ∙ ap (after b) rest ∙ after-other b x r other;
     }
 
-passed_found : (b : ℕ) (s : List ℕ) (i : ℕ) → i < length s → get_or s i 0 ≡ b → Passed b s i → (before b s ≡ take i s) × (after b s ≡ Some (drop (i + 1) s))
+pub passed_found : (b : ℕ) (s : List ℕ) (i : ℕ) → i < length s → get_or s i 0 ≡ b → Passed b s i → (before b s ≡ take i s) × (after b s ≡ Some (drop (i + 1) s))
 passed_found b s i within here p =
     let rest = drop_more s i 0 within in
     let x = get_or s i 0 in
     let r = drop (i + 1) s in
     (p.front ∙ ap (λ l. take i s ++ l) (ap (before b) rest ∙ before_found b x r here) ∙ append-nil (take i s), p.back ∙ ap (after b) rest ∙ after_found b x r here)
 
-passed_all : (b : ℕ) (s : List ℕ) (i : ℕ) → length s ≤ i → Passed b s i → (before b s ≡ s) × (after b s ≡ None)
+pub passed_all : (b : ℕ) (s : List ℕ) (i : ℕ) → length s ≤ i → Passed b s i → (before b s ≡ s) × (after b s ≡ None)
 passed_all b s i past p =
     let rest = drop_all i s past in
     (p.front ∙ ap (λ l. take i s ++ before b l) rest ∙ append-nil (take i s) ∙ take_all i s past, p.back ∙ ap (after b) rest)
@@ -110,11 +110,11 @@ cut_nowhere b s e =
 pub lines_none : (s : List ℕ) → length s ≡ 0 → lines s ≡ []
 lines_none s e = ap lines (nil_from_length s e)
 
-lines-first : (s : List ℕ) → 0 < length s → lines s ≡ before line_feed s ∷ later_lines (after line_feed s)
+pub lines-first : (s : List ℕ) → 0 < length s → lines s ≡ before line_feed s ∷ later_lines (after line_feed s)
 lines-first [] h = absurd (omega arith)
 lines-first (c ∷ cs) h = lines_cut c cs
 
-after_shorter : (b : ℕ) (s r : List ℕ) → after b s ≡ Some r → length r < length s
+pub after_shorter : (b : ℕ) (s r : List ℕ) → after b s ≡ Some r → length r < length s
 after_shorter b [] r e = absurd (let z : ◌≡◌ {A = ℕ} 0 1 = cc in omega arith)
 after_shorter b (c ∷ cs) r e = by (eqb c b) e (after_shorter b cs r)
   where

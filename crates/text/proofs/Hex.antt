@@ -1,5 +1,5 @@
 -- Laws of reading digit pairs.
-use Rattle.std.proofs.Common.{◌≡◌, ℕ, zero, suc, ◌+◌, ◌*◌, ◌/◌, ◌%◌, ◌<◌, true, List, [], ◌∷◌, length, get_or, is_some, Some, None, Option, unwrap_or, sym, refl, ap, ◌∙◌, arith}
+use Rattle.std.proofs.Common.{◌≡◌, ℕ, zero, suc, ◌+◌, ◌*◌, ◌/◌, ◌%◌, ◌<◌, true, false, List, [], ◌∷◌, length, get_or, is_some, Some, None, Option, unwrap_or, sym, refl, ap, ◌∙◌, arith}
 use Rattle.std.specs.Option.{option_map}
 use Rattle.std.proofs.lemmas.List.{ext_get_or}
 use Rattle.text.specs.Pairs.{hex_value, paired_with, unpaired}
@@ -103,6 +103,10 @@ pub filled : (s out : List ℕ) → option_map length (unpaired s) ≡ Some (len
 filled s out e h =
     let b = counted (unpaired s) (length out) e in
     b.1 ∙ ap Some (ext_get_or 0 b.0 out b.2 (λ i l. byte_at s b.0 i b.1 l ∙ sym (h i (omega (arith, b.2)))))
+
+pub not_some : {A : Type 0} (o : Option A) → is_some o ≡ false → o ≡ None
+not_some None e = refl
+not_some (Some x) e = absurd (let z : ◌≡◌ {A = ℕ} 0 1 = cc in omega arith)
 
 -- a field that stands for n bytes has 2 * n digits
 pub digits_counted : (s : List ℕ) (n : ℕ) → option_map length (unpaired s) ≡ Some n → length s ≡ 2 * n

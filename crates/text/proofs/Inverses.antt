@@ -179,6 +179,11 @@ untabbed_fields (c ∷ cs) = go (eqb c tab) refl (untabbed_fields cs)
 pub tabs_fields : (s w : List ℕ) (fs : List (List ℕ)) → fields s ≡ w ∷ fs → w ++ tabs fs ≡ s
 tabs_fields s w fs e = ap untabbed (sym e) ∙ untabbed_fields s
 
+-- what stands before the first line feed is the first line
+pub lines_more : (s rest : List ℕ) → Without line_feed s → lines (s ++ line_feed ∷ rest) ≡ s ∷ lines rest
+lines_more [] rest w = refl
+lines_more (c ∷ cs) rest w = cond-false _ _ _ (ne_eqb c line_feed w.0) ∙ ap (attached c) (lines_more cs rest w.1)
+
 -- some bytes without line feeds are one line
 pub lines-one : (s : List ℕ) → 0 < length s → Without line_feed s → lines s ≡ s ∷ []
 lines-one [] h w = absurd (omega arith)

@@ -1,5 +1,5 @@
 -- Digit pairs written into a buffer from a place on.
-use Rattle.std.proofs.Common.{◌≡◌, ℕ, ◌+◌, ◌*◌, ◌/◌, ◌%◌, ◌<◌, ◌≤◌, List, [], ◌∷◌, ◌++◌, Option, Some, None, length, get_or, take, drop, set, sym, refl, ap, ◌∙◌, add-zero, arith}
+use Rattle.std.proofs.Common.{◌≡◌, ℕ, ◌+◌, ◌-◌, ◌*◌, ◌/◌, ◌%◌, ◌<◌, ◌≤◌, List, [], ◌∷◌, ◌++◌, Option, Some, None, length, get_or, take, drop, set, sym, refl, ap, ◌∙◌, add-zero, arith}
 use Rattle.std.proofs.lemmas.List.{take_more, take_more_set, drop-set-lt, append_assoc, append-nil, length-set, take_all}
 use Rattle.std.specs.Option.{IsSome}
 use Rattle.text.specs.Pairs.{hex_digit, pairs}
@@ -52,3 +52,7 @@ wrote_some out more (Some n) out' fits w = refl
 
 pub wrote_front : (out more : List ℕ) (r : Option ℕ) (n : ℕ) (out' : List ℕ) → Wrote out 0 more r out' → r ≡ Some n → take n out' ≡ more
 wrote_front out more r n out' w e = let w' : Wrote out 0 more (Some n) out' = rw e at w in w'.front
+
+-- pairs that do not fit
+pub pairs-over : (room at n : ℕ) → at ≤ room → (room - at) / 2 < n → room < at + 2 * n
+pairs-over room at n a h = omega arith

@@ -23,6 +23,15 @@ pub record Along (h : Hashing) (text rest : List ℕ) (count : ℕ) (stack : Sta
   pub high : length built ≤ count
   pub broad : all_branches built ≤ count
 
+-- before the first line, over the empty stack
+pub along_none : (h : Hashing) (text : List ℕ) (stack : Stack) → shows stack ≡ ([], 0) → Along h text text 0 stack
+along_none h text stack empty = record { built = []; whole = refl; counted = omega arith; shown = empty; high = omega arith; broad = omega arith }
+
+-- and after the last
+pub along_all : (h : Hashing) (text rest : List ℕ) (count : ℕ) (stack : Stack) → lines rest ≡ [] → Along h text rest count stack → Ok (shows stack) ≡ meant (shows_of h) (grown tree_figure digest_length 0 (lines text) [])
+along_all h text rest count stack none here =
+    ap Ok here.shown ∙ ap (meant (shows_of h)) (sym (ap (λ ls. grown tree_figure digest_length count ls here.built) none) ∙ here.whole)
+
 -- a line did to the digests of the trees ts what it does to the trees: it made one tree more at
 -- most, and one branch
 took_line : (h : Hashing) (line : Result Line Refusal) (ts : List Tree) (before after : Stack) → shows before ≡ shows_of h ts → Took h line before (Ok tt) after → (us : List Tree) × (on_stack tree_figure line ts ≡ Ok us) × (shows after ≡ shows_of h us) × (length us ≤ length ts + 1) × (all_branches us ≤ all_branches ts + 1)
