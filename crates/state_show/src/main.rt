@@ -2,16 +2,17 @@
 #![tactic(auto)]
 
 use block::BLOCK_LENGTH;
+use input::read_up_to;
 use report::state::state_report;
 use std::io;
-use std::io::{Read, Write};
+use std::io::Write;
 
 // One byte more than a block has, so that a longer input is seen to be longer.
-const INPUT_LIMIT: u64 = BLOCK_LENGTH as u64 + 1;
+const INPUT_LIMIT: usize = BLOCK_LENGTH + 1;
 
 fn main(rt: HostRuntime) -> io::Result<()> {
-    let mut block = Vec::new(rt.alloc());
-    rt.stdin().take(INPUT_LIMIT).read_to_end(&mut block)?;
-    let report = state_report(block.as_slice());
+    let mut buffer = [0; INPUT_LIMIT];
+    let len = read_up_to(&mut rt.stdin(), &mut buffer)?;
+    let report = state_report(&buffer[..len]);
     rt.stdout().write_all(report.as_bytes())
 }
