@@ -60,7 +60,7 @@ module _ (h : Hashing) (text rest line after : List ℕ) (count : ℕ) (stack : 
       }
 
   -- the line was refused, and the answer q is its fault
-  pub along_stopped : (stack' : Stack) (r : Result (Unit {0}) Refusal) (q : Result Stack Fault) → Took h (read_line digest_length line) stack r stack' → (r ≡ Ok tt → ⊥) → ((x : Refusal) → r ≡ Err x → q ≡ Err (fault_at (count + 1) x)) → meant shows q ≡ meant (shows_of h) (grown tree_figure digest_length 0 (lines text) [])
-  along_stopped stack' (Ok u) q took bad fault = absurd (bad refl)
-  along_stopped stack' (Err x) q took bad fault =
+  pub along_stopped : {X : Type 0} (v : X → List (List ℕ) × ℕ) (stack' : Stack) (r : Result (Unit {0}) Refusal) (q : Result X Fault) → Took h (read_line digest_length line) stack r stack' → (r ≡ Ok tt → ⊥) → ((x : Refusal) → r ≡ Err x → q ≡ Err (fault_at (count + 1) x)) → meant v q ≡ meant (shows_of h) (grown tree_figure digest_length 0 (lines text) [])
+  along_stopped v stack' (Ok u) q took bad fault = absurd (bad refl)
+  along_stopped v stack' (Err x) q took bad fault =
       rw (fault x refl, goes (Err x) (took_none h (read_line digest_length line) here.built stack stack' x here.shown took), add-one)

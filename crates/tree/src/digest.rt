@@ -32,7 +32,8 @@ fn fold_text<H: Hash>(hash: &H, text: &[u8]) -> Result<(Digest, Summary), Fault>
     if !size_fits(text, lines) {
         return Err(Refusal::text(Code::Size).at(0));
     }
-    let stack = Stack::of_text(hash, text)?;
+    let mut stack = Stack::empty();
+    stack.take_lines(hash, text)?;
     let [digest] = stack.digests.as_slice() else {
         return Err(Refusal::form().at(lines));
     };

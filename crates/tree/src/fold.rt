@@ -22,17 +22,17 @@ impl Stack {
         self.grow(hash, read_line(line)?)
     }
 
-    // The stack after all lines of a text, or the fault of the first that is refused.
-    pub(crate) fn of_text<H: Hash>(hash: &H, text: &[u8]) -> Result<Stack, Fault>
-        requires { length (lines text.now) ≤ line_limit }
-        ensures { meant shows result ≡ meant (shows_of (H.meaning hash.now)) (grown tree_figure digest_length 0 (lines text.now) []) }
+    // Takes all lines of a text, from the empty stack on, or answers the fault of the first that is
+    // refused. The stack is the caller's, so that firmware's holds it once.
+    pub(crate) fn take_lines<H: Hash>(&mut self, hash: &H, text: &[u8]) -> Result<(), Fault>
+        requires few { length (lines text.now) ≤ line_limit }
+        requires empty { shows self.old ≡ ([], 0) }
+        ensures { meant (λ _. shows self.new) result ≡ meant (shows_of (H.meaning hash.now)) (grown tree_figure digest_length 0 (lines text.now) []) }
     {
-        let mut stack = Stack::empty();
         for (i, line) in Lines::new(text).enumerate() {
-            stack
-                .take_line(hash, line)
+            self.take_line(hash, line)
                 .map_err(|refusal| refusal.at(i + 1))?;
         }
-        Ok(stack)
+        Ok(())
     }
 }
