@@ -31,9 +31,13 @@ impl<H: Hash, K: Kind> Session<H, K> {
     pub fn run<S: ReaderState>(&mut self, state: &S, text: &[u8]) -> Result<usize, Fault>
         ensures { Runs K.checked H.meaning (S.observed state.now) self.old text.now result self.new }
     {
+        let oversized = Refusal::text(Code::Size).at(0);
+        if text.len() > TEXT_LIMIT {
+            return Err(oversized);
+        }
         let count = count_lines(text);
-        if text.len() > TEXT_LIMIT || count > LINE_LIMIT {
-            return Err(Refusal::text(Code::Size).at(0));
+        if count > LINE_LIMIT {
+            return Err(oversized);
         }
         for (i, line) in Lines::new(text).enumerate() {
             self.run_line(state, line)
